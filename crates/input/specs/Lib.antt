@@ -1,0 +1,2 @@
+pub mod SyntaxKind
+pub mod Input
