@@ -66,12 +66,19 @@ firstPath = start λ o. then segment λ _. complete o PATH give
 unfoldable pub qualified : CompletedMarker → Node
 qualified m = then (lead m COLON2) λ o. then segment λ _. complete o PATH give
 
+-- a turn of a loop that goes on after a node
+abbrev pub Turning : Type 0
+Turning = Prog (Next CompletedMarker CompletedMarker)
+
+unfoldable pub turning : Node → Turning
+turning p = then p λ m. give (again m)
+
 -- "Refusal 7, at: .. `::` not followed by IDENT"
-unfoldable pub pathTurn : Tokens → CompletedMarker → Prog (Next CompletedMarker CompletedMarker)
+unfoldable pub pathTurn : Tokens → CompletedMarker → Turning
 pathTurn ts m =
     look λ at.
     whether (present ts at COLON2)
-    (λ _. bound (kindAt ts (at + 2)) λ next. whether (eqb next IDENT) (λ _. then (qualified m) λ m′. give (again m′)) (λ _. refuse OUTSIDE-CUT at))
+    (λ _. bound (kindAt ts (at + 2)) λ next. whether (eqb next IDENT) (λ _. turning (qualified m)) (λ _. refuse OUTSIDE-CUT at))
     (λ _. give (done m))
 
 unfoldable pub pathRest : Tokens → CompletedMarker → Node

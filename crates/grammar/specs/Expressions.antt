@@ -13,7 +13,7 @@ use Rattle.parser.specs.Prog.{Prog, give, refuse, look, start, complete, abando
 use Rattle.grammar.specs.declared.Op.{Op}
 use Rattle.grammar.specs.TokenSet.{isFirst, endsArguments, isPrefix, isFieldName, outsideAtom}
 use Rattle.grammar.specs.Strength.{currentOp, rightOf, isRange, operandFollows}
-use Rattle.grammar.specs.Atom.{Part, Node, bump, begin, lead, closing, leaf, errAndBump, errRecover, pathNode, castExpr}
+use Rattle.grammar.specs.Atom.{Part, Node, bump, begin, lead, closing, leaf, errAndBump, errRecover, Turning, turning, pathNode, castExpr}
 
 -- a reading: an expression's node, or none
 abbrev pub Rule : Type 0
@@ -30,6 +30,10 @@ given p k = then p (elim [ some m ↦ k m | none ↦ give none ])
 -- the marker of a reading that yields no expression is abandoned
 unfoldable pub givenUp : Marker → Rule
 givenUp o = abandon o (give none)
+
+-- "Read the left part and extend it to the marker."
+unfoldable pub extendTo : Rule → Marker → Rule
+extendTo p o = then p (elim [ some m ↦ extend m o λ m′. give (some m′) | none ↦ givenUp o ])
 
 -- "A lone `.` as atom does the same."
 unfoldable pub loneDot : Tokens → Rule
@@ -123,6 +127,14 @@ field ts o =
 unfoldable pub fieldExpr : Tokens → Bool → CompletedMarker → Turned
 fieldExpr ts recovery m = then (dotted recovery m) λ o. field ts o
 
+-- "Atoms (cut): kinds 2..6 give LITERAL"; refusal 7 at "`| < : [` in atom place"
+unfoldable pub plainAtom : Tokens → Rule
+plainAtom ts =
+    look λ at.
+    bound (kindAt ts at) λ kind.
+    whether (outsideAtom kind) (λ _. refuse OUTSIDE-CUT at) λ _.
+    whether (eqb kind DOT) (λ _. loneDot ts) (λ _. yields (leaf LITERAL))
+
 unfoldable pub beginRef : Prog Marker
 beginRef = then (begin AMP) λ o. eat MUT-KW (give o) (give o)
 
@@ -145,16 +157,9 @@ isMethod ts at =
 unfoldable pub isDots : Tokens → ℕ → Bool
 isDots ts at = whether (present ts at DOT2EQ) (λ _. true) (λ _. present ts at DOT2)
 
--- where the name after a dot stands
-unfoldable pub nameAt : Bool → ℕ → ℕ
-nameAt recovery at = whether recovery (λ _. at) (λ _. at + 1)
-
--- a turn of the operator loop
-abbrev pub Turning : Type 0
-Turning = Prog (Next CompletedMarker CompletedMarker)
-
-unfoldable pub turning : Node → Turning
-turning p = then p λ m. give (again m)
+-- where the name after a dot stands; past the end there is none
+unfoldable pub nameAt : Tokens → Bool → ℕ → ℕ
+nameAt ts recovery at = whether recovery (λ _. at) λ _. whether (ltb at (length (ts .kinds))) (λ _. at + 1) (λ _. at)
 
 module _ (ts : Tokens) (read : ℕ → Rule) where
   unfoldable pub methodCallExpr : Bool → CompletedMarker → Node
@@ -164,7 +169,7 @@ module _ (ts : Tokens) (read : ℕ → Rule) where
   unfoldable pub postfixDotExpr : Bool → CompletedMarker → Turned
   postfixDotExpr recovery m =
       look λ at.
-      bound (nameAt recovery at) λ name.
+      bound (nameAt ts recovery at) λ name.
       whether (isMethod ts name) (λ _. onward (methodCallExpr recovery m)) λ _.
       bound (kindAt ts name) λ kind.
       whether (eqb kind AWAIT-KW) (λ _. onward (awaitExpr recovery m)) λ _.
@@ -194,15 +199,13 @@ module _ (ts : Tokens) (read : ℕ → Rule) where
   unfoldable pub parenExpr : Node
   parenExpr = then (begin L-PAREN) λ o. parenBody o
 
-  -- "Atoms (cut): kinds 2..6 give LITERAL"; refusal 7 at "`| < : [` in atom place"
+  -- "`(` expression `)` gives PAREN_EXPR; IDENT (`::` IDENT)* gives PATH_EXPR"
   unfoldable pub atomExpr : Rule
   atomExpr =
       look λ at.
       bound (kindAt ts at) λ kind.
       whether (eqb kind IDENT) (λ _. yields (pathNode ts PATH-EXPR)) λ _.
-      whether (eqb kind L-PAREN) (λ _. yields parenExpr) λ _.
-      whether (outsideAtom kind) (λ _. refuse OUTSIDE-CUT at) λ _.
-      whether (eqb kind DOT) (λ _. loneDot ts) (λ _. yields (leaf LITERAL))
+      whether (eqb kind L-PAREN) (λ _. yields parenExpr) (λ _. plainAtom ts)
 
   unfoldable pub atomPostfix : Rule
   atomPostfix = given atomExpr λ m. yields (postfixExpr m)
@@ -262,7 +265,7 @@ module _ (ts : Tokens) (read : ℕ → Rule) where
 
   -- "Read the left part and extend it to the marker." "A reading that yields no expression ends the surrounding rule at once"
   unfoldable pub extended : Marker → Rule
-  extended o = then lhs (elim [ some m ↦ extend m o λ m′. give (some m′) | none ↦ givenUp o ])
+  extended o = extendTo lhs o
 
   unfoldable pub expression : ℕ → Marker → Rule
   expression b o = given (extended o) λ m. yields (operators b m)

@@ -1,19 +1,17 @@
 -- The checks of tokens: what the code computes, and the table of refusals 3, 1 and 2, "exactly when" and "first such index".
 -- By the "first such index" of Scan, for any run of tokens; a verdict is then unique. Assumes nothing.
-use mathlib.Core.Path.{_≡_, refl, sym, ap, subst, _∙_}
-use mathlib.Core.Bool.{Bool, true, false}
+use mathlib.Core.Path.{_≡_, refl, sym, ap, _∙_}
+use mathlib.Core.Bool.{Bool}
 use mathlib.Core.List.{List}
 use mathlib.Core.Logic.{_⊎_, inl, inr, ⊎-elim}
 use Prim.Native.Nat.{ℕ, _+_, _-_, _<_, _≤_}
 use native.Mathlib.Omega.{arith}
-use lib.Dec.{ltb, leb, eqb}
-use lib.ListN.{length, getD}
-use borrow.Author.Tests.{ltb-true, ltb-false, leb-true, leb-false, eqb-true, eqb-false}
-use Rattle.base.specs.Base.{whether, bound}
-use Rattle.base.proofs.Laws.{whether-yes, whether-no, whether-lt, whether-ge, bound-is}
+use lib.ListN.{length}
+use borrow.Author.Tests.{ltb-true, ltb-false}
+use Rattle.base.proofs.Laws.{whether-lt, whether-ge, bound-is}
 use Rattle.base.proofs.Cases.{whether-by, bound-by}
-use Rattle.input.specs.SyntaxKind.{IDENT, QUESTION, BAD-KIND, BAD-JOINT, BAD-LENGTH}
-use Rattle.input.specs.Input.{Tokens, kindAt, jointAt, tokenLimit, widthLimit, within, isRaw, isJoint, firstOff, refusal, lengthsOf, bytesOf, tokensOf, ahead, onChecked}
+use Rattle.input.specs.SyntaxKind.{IDENT, QUESTION, BAD-KIND, BAD-JOINT}
+use Rattle.input.specs.Input.{Tokens, widthLimit, within, isRaw, isJoint, firstOff, refusal, bytesOf, ahead}
 use Rattle.input.specs.declared.Refusal.{Refusal}
 use Rattle.input.specs.declared.Checked.{Checked}
 use Rattle.input.specs.declared.Checked.the-variants.{Fine, Refused}

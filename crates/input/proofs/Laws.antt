@@ -8,7 +8,7 @@ use Prim.Native.Nat.{ℕ, zero, suc, _+_, _-_, _<_, _≤_}
 use native.Mathlib.Omega.{arith}
 use lib.Dec.{ltb, leb, eqb}
 use lib.ListN.{length, getD, List·getD-eq-default}
-use borrow.Author.Tests.{ltb-true, ltb-false, leb-true, leb-false, eqb-true, eqb-false, lt-ltb, le-ltb, le-leb, lt-leb, eq-eqb, ne-eqb}
+use borrow.Author.Tests.{ltb-true, ltb-false, leb-true, eqb-true, lt-ltb, le-leb, eq-eqb}
 use Rattle.base.specs.Base.{whether, bound}
 use Rattle.input.specs.SyntaxKind.{EOF, IDENT, QUESTION, MINUSEQ, SHREQ}
 use Rattle.input.specs.Input.{Tokens, kindAt, jointAt, stands, within, isRaw, isGlued, isJoint, follow, rowOf, rowParts, partsOf, widthOf, widthLimit, present, ahead, onChecked}

@@ -2,20 +2,17 @@
 -- By the cases of the tests. Assumes nothing.
 use mathlib.Core.Path.{_≡_, refl, sym, ap, _∙_}
 use mathlib.Core.Bool.{Bool, true, false}
-use mathlib.Core.List.{List, [], _∷_}
-use mathlib.Core.Logic.{_⊎_, inl, inr, ⊎-elim}
+use mathlib.Core.List.{[], _∷_}
 use Prim.Native.Nat.{ℕ, _+_, _<_, _≤_}
 use native.Mathlib.Omega.{arith}
 use lib.Dec.{eqb}
 use lib.ListN.{length}
-use borrow.Author.Tests.{eq-eqb}
 use Rattle.base.specs.Base.{whether, bound}
-use Rattle.base.proofs.Laws.{whether-yes, whether-no}
 use Rattle.input.specs.SyntaxKind.{MINUSEQ, SHREQ}
-use Rattle.input.specs.Input.{Tokens, jointAt, stands, standsJoint, follow, rowOf, rowParts, isGlued, partsOf, present, widthOf, widthLimit}
+use Rattle.input.specs.Input.{Tokens, jointAt, stands, standsJoint, follow, rowOf, rowParts, isGlued, present, widthOf, widthLimit}
 use Rattle.input.specs.declared.Glued.{Glued}
 use Rattle.input.proofs.Laws.{both-true, glued-bounds, stands-says, parts-glued, parts-raw, raw-width, width-bounds, width-limit}
-use Rattle.input.proofs.Table.{Third, wide-two, wide-three, Right, row-of-glued}
+use Rattle.input.proofs.Table.{Third, wide-two, wide-three, row-of-glued}
 
 unfoldable pub presentRow : Tokens → ℕ → Glued → Bool
 presentRow ts at row =

@@ -1,16 +1,15 @@
 -- The table of refusals for a whole token list: 3, then 1, then 2, each "exactly when", each at its "first such index"; and what an accepted list is.
 -- By the verdicts of Checks: the list has one, and any two agree. Assumes nothing.
-use mathlib.Core.Path.{_≡_, refl, sym, ap, subst, _∙_}
+use mathlib.Core.Path.{_≡_, refl, sym, subst, _∙_}
 use mathlib.Core.Logic.{_⊎_, inl, inr, ⊎-elim}
 use Prim.Native.Nat.{ℕ, _<_, _≤_}
 use native.Mathlib.Omega.{arith}
-use lib.Dec.{leb, eqb}
 use lib.ListN.{length}
 use borrow.Author.Tests.{leb-true, leb-false, eqb-true, eqb-false}
 use Rattle.base.proofs.Laws.{whether-eq, whether-le}
 use Rattle.base.proofs.Cases.{whether-by}
 use Rattle.input.specs.SyntaxKind.{IDENT, QUESTION, BAD-KIND, BAD-JOINT, BAD-LENGTH}
-use Rattle.input.specs.Input.{Tokens, kindAt, jointAt, tokenLimit, isRaw, isJoint, refusal, lengthsOf, bytesOf, tokensOf, ahead, onChecked}
+use Rattle.input.specs.Input.{Tokens, kindAt, jointAt, tokenLimit, isRaw, isJoint, refusal, lengthsOf, bytesOf, tokensOf, ahead}
 use Rattle.input.specs.declared.Refusal.{Refusal}
 use Rattle.input.specs.declared.Checked.{Checked}
 use Rattle.input.specs.declared.Checked.the-variants.{Fine, Refused}

@@ -7,9 +7,8 @@ use mathlib.Core.Logic.{_⊎_, inl, inr, ⊎-elim}
 use Prim.Native.Nat.{ℕ, zero, suc, _+_, _-_, _<_, _≤_}
 use native.Mathlib.Omega.{arith}
 use lib.Dec.{ltb}
-use lib.ListN.{length, getD}
+use lib.ListN.{getD}
 use borrow.Author.Tests.{ltb-true, ltb-false}
-use Rattle.base.specs.Base.{whether}
 use Rattle.base.proofs.Laws.{whether-yes, whether-no}
 use Rattle.input.specs.Input.{within, firstOff}
 use Rattle.input.proofs.Laws.{true-or-false, not-both}

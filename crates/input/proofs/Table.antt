@@ -1,19 +1,19 @@
 -- The table of glued tokens: the rule of each row, and that no two rows have the same parts.
 -- By one test of the whole table that antt computes, and a law that turns it into the fact at each row. Assumes nothing.
-use mathlib.Core.Path.{_≡_, refl, sym, ap, subst, _∙_}
-use mathlib.Core.Bool.{Bool, true, false, not}
+use mathlib.Core.Path.{_≡_, refl, ap}
+use mathlib.Core.Bool.{Bool, true, false}
 use mathlib.Core.List.{List, [], _∷_}
-use mathlib.Core.Logic.{_⊎_, inl, inr, ⊎-elim}
-use Prim.Native.Nat.{ℕ, zero, suc, _+_, _-_, _*_, _<_, _≤_}
+use mathlib.Core.Logic.{_⊎_, ⊎-elim}
+use Prim.Native.Nat.{ℕ, zero, suc, _+_, _-_, _*_, _<_}
 use native.Mathlib.Omega.{arith}
-use lib.Dec.{ltb, leb, eqb}
+use lib.Dec.{eqb}
 use lib.ListN.{length, getD}
 use borrow.Author.Tests.{eqb-true, eq-eqb}
 use Rattle.base.specs.Base.{whether}
 use Rattle.input.specs.SyntaxKind.{EOF, MINUSEQ}
-use Rattle.input.specs.Input.{isRaw, isGlued, within, gluedTable, noRow, rowOf, rowParts}
+use Rattle.input.specs.Input.{isRaw, isGlued, gluedTable, noRow, rowOf, rowParts}
 use Rattle.input.specs.declared.Glued.{Glued}
-use Rattle.input.proofs.Laws.{both-true, true-both, not-both, true-or-false, glued-bounds}
+use Rattle.input.proofs.Laws.{both-true, true-or-false, glued-bounds}
 
 both : Bool → Bool → Bool
 both a b = whether a (λ _. b) (λ _. false)

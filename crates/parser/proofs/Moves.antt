@@ -1,17 +1,18 @@
 -- What holds of every program, whatever it is: the position never falls and stays within the tokens, the lent list keeps its length. Each call is looked at once (it stays, or it goes on by what it took; a refusal or a no changes nothing), and one induction on programs carries a fact of the calls to all of them.
 -- Besides: the principles by which a theorem goes through one answer of a call, a sequence and a loop. Assumes nothing.
 use mathlib.Core.Path.{_≡_, refl, sym, subst, ap, _∙_}
-use mathlib.Core.List.{List, [], _∷_}
-use mathlib.Core.Bool.{Bool, true, false}
+use mathlib.Core.List.{List}
+use mathlib.Core.Bool.{true}
 use Prim.Native.Nat.{ℕ, zero, suc, _+_, _-_, _≤_, _<_}
 use native.Mathlib.Omega.{arith}
 use lib.ListN.{length, length-set}
 use lib.Dec.{ltb}
 use borrow.Author.Tests.{ltb-true}
-use Rattle.base.specs.Base.{whether, bound, Next, again, done, onNext}
+use Rattle.base.specs.Base.{Next, again, done, onNext}
 use Rattle.base.proofs.Cases.{whether-by, bound-by}
 use Rattle.input.specs.SyntaxKind.{FLOAT-NUMBER}
-use Rattle.input.specs.Input.{Tokens, stands, follow, present, partsOf, rowParts, widthOf}
+use Rattle.input.specs.Input.{Tokens, stands, present, widthOf}
+use Rattle.input.proofs.Laws.{stands-says, width-bounds, present-inside}
 use Rattle.input.specs.declared.Refusal.{Refusal}
 use Rattle.event.specs.declared.State.{State}
 use Rattle.parser.specs.Calls.{startOf, completeOf, abandonOf, precedeOf, extendOf, eatOf, bumpAnyOf, errorOf, splitDotOf, splitTwoOf, splitOf}
@@ -98,38 +99,11 @@ Stays s ev s1 e = (s1 .pos .0 ≡ s .pos .0) × (length e ≡ length ev)
 abbrev pub Goes : Tokens → State → List ℕ → State → List ℕ → Type 0
 Goes ts s ev s1 e = (s .pos .0 < s1 .pos .0) × (s1 .pos .0 ≤ length (ts .kinds)) × (length e ≡ length ev)
 
-abbrev Off : Bool → Type 0
-Off true = ⊥
-Off false = Unit {0}
-
-both-go : (b : Bool) (f : Unit {0} → Bool) → whether b f (λ _. false) ≡ true → (b ≡ true) × (f tt ≡ true)
-unfolding whether
-both-go true f h = (refl, h)
-both-go false f h = absurd (subst (λ (b : Bool). Off b) h tt)
-
-stands-within : (ts : Tokens) (at kind : ℕ) → stands ts at kind ≡ true → at < length (ts .kinds)
-unfolding stands
-stands-within ts at kind h = ltb-true _ _ (both-go (ltb at (length (ts .kinds))) _ h .0)
-
-follow-within : (ts : Tokens) (at a : ℕ) (parts : List ℕ) → follow ts at (a ∷ parts) ≡ true → at + suc (length parts) ≤ length (ts .kinds)
-unfolding follow
-follow-within ts at a [] h = let z : at < length (ts .kinds) = stands-within ts at a h in omega arith
-follow-within ts at a (b ∷ parts) h =
-    let z : at + 1 + suc (length parts) ≤ length (ts .kinds) = follow-within ts (at + 1) b parts (both-go _ _ (both-go (stands ts at a) _ h .1) .1) in
-    omega arith
-
-abbrev Within : Tokens → ℕ → List ℕ → Type 0
-Within ts at parts = follow ts at parts ≡ true → (at < at + length parts) × (at + length parts ≤ length (ts .kinds))
-
-some-within : (ts : Tokens) (at a : ℕ) (parts : List ℕ) → Within ts at (a ∷ parts)
-some-within ts at a parts h = (omega arith, follow-within ts at a parts h)
+pub stands-within : (ts : Tokens) (at kind : ℕ) → stands ts at kind ≡ true → at < length (ts .kinds)
+stands-within ts at kind h = stands-says ts at kind h .inside
 
 pub present-within : (ts : Tokens) (at kind : ℕ) → present ts at kind ≡ true → (at < at + widthOf kind) × (at + widthOf kind ≤ length (ts .kinds))
-unfolding present widthOf partsOf rowParts
-present-within ts at kind =
-    whether-by (Within ts at) _ _ _
-    (λ _. whether-by (Within ts at) _ _ _ (λ _. some-within ts at _ _) (λ _. some-within ts at _ _))
-    (λ _. some-within ts at _ _)
+present-within ts at kind h = (let z : 1 ≤ widthOf kind = width-bounds kind .0 in omega arith, present-inside ts at kind h)
 
 pub start-moves : (ts : Tokens) (s : State) (ev : List ℕ) → OpenedBy (Stays s ev) (λ e. e ≡ ev) (startOf s ev)
 unfolding startOf
@@ -154,7 +128,7 @@ precede-moves ts s c ev =
 pub extend-moves : (ts : Tokens) (s : State) (c : CompletedMarker) (o : Marker) (ev : List ℕ) → ClosedBy (Stays s ev) (λ e. e ≡ ev) (extendOf s c o ev)
 unfolding extendOf
 extend-moves ts s c o ev =
-    whether-by (ClosedBy (Stays s ev) (λ e. e ≡ ev)) _ _ _ (λ _. whether-by (ClosedBy (Stays s ev) (λ e. e ≡ ev)) _ _ _ (λ _. whether-by (ClosedBy (Stays s ev) (λ e. e ≡ ev)) _ _ _ (λ _. (refl, simp length-set)) (λ _. refl)) (λ _. refl)) (λ _. refl)
+    whether-by (ClosedBy (Stays s ev) (λ e. e ≡ ev)) _ _ _ (λ _. whether-by (ClosedBy (Stays s ev) (λ e. e ≡ ev)) _ _ _ (λ _. whether-by (ClosedBy (Stays s ev) (λ e. e ≡ ev)) _ _ _ (λ _. whether-by (ClosedBy (Stays s ev) (λ e. e ≡ ev)) _ _ _ (λ _. (refl, simp length-set)) (λ _. refl)) (λ _. refl)) (λ _. refl)) (λ _. refl)
 
 pub eat-moves : (ts : Tokens) (s : State) (kind : ℕ) (ev : List ℕ) → TakenBy (Goes ts s ev) (λ e. e ≡ ev) (eatOf ts s kind ev)
 unfolding eatOf
@@ -245,25 +219,25 @@ module _ (ts : Tokens) (G : State → List ℕ → Type 0) (stay : (s : State) (
 
   pub keeps : Keeps ts G
   keeps =
-    record {
-      of-start = λ s ev g. opened-kept s ev g (startOf s ev .0) (startOf s ev .1) (start-moves ts s ev);
-      of-complete = λ s o node ev g. closed-kept s ev g (completeOf s o node ev .0) (completeOf s o node ev .1) (complete-moves ts s o node ev);
-      of-abandon = λ s o ev g. moved-kept s ev g (abandonOf s o ev .0) (abandonOf s o ev .1) (abandon-moves ts s o ev);
-      of-precede = λ s c ev g. opened-kept s ev g (precedeOf s c ev .0) (precedeOf s c ev .1) (precede-moves ts s c ev);
-      of-extend = λ s c o ev g. closed-kept s ev g (extendOf s c o ev .0) (extendOf s c o ev .1) (extend-moves ts s c o ev);
-      of-eat = λ s kind ev g. taken-kept s ev g (eatOf ts s kind ev .0) (eatOf ts s kind ev .1) (eat-moves ts s kind ev);
-      of-bump = λ s ev g. taken-kept s ev g (bumpAnyOf ts s ev .0) (bumpAnyOf ts s ev .1) (bump-moves ts s ev);
-      of-error = λ s code ev g. moved-kept s ev g (errorOf s code ev .0) (errorOf s code ev .1) (error-moves ts s code ev);
-      of-split = λ s o ev g. parted-kept s ev g (splitOf ts s o ev .0) (splitOf ts s o ev .1) (split-moves ts s o ev)
-    }
+      record {
+        of-start = λ s ev g. opened-kept s ev g (startOf s ev .0) (startOf s ev .1) (start-moves ts s ev);
+        of-complete = λ s o node ev g. closed-kept s ev g (completeOf s o node ev .0) (completeOf s o node ev .1) (complete-moves ts s o node ev);
+        of-abandon = λ s o ev g. moved-kept s ev g (abandonOf s o ev .0) (abandonOf s o ev .1) (abandon-moves ts s o ev);
+        of-precede = λ s c ev g. opened-kept s ev g (precedeOf s c ev .0) (precedeOf s c ev .1) (precede-moves ts s c ev);
+        of-extend = λ s c o ev g. closed-kept s ev g (extendOf s c o ev .0) (extendOf s c o ev .1) (extend-moves ts s c o ev);
+        of-eat = λ s kind ev g. taken-kept s ev g (eatOf ts s kind ev .0) (eatOf ts s kind ev .1) (eat-moves ts s kind ev);
+        of-bump = λ s ev g. taken-kept s ev g (bumpAnyOf ts s ev .0) (bumpAnyOf ts s ev .1) (bump-moves ts s ev);
+        of-error = λ s code ev g. moved-kept s ev g (errorOf s code ev .0) (errorOf s code ev .1) (error-moves ts s code ev);
+        of-split = λ s o ev g. parted-kept s ev g (splitOf ts s o ev .0) (splitOf ts s o ev .1) (split-moves ts s o ev);
+      }
 
 -- "the position never falls"
 pub onward : {A : Type 0} (ts : Tokens) (p : Prog A) (q : ℕ) (s : State) (ev : List ℕ) → q ≤ s .pos .0 → Kept (λ s1 _. q ≤ s1 .pos .0) (run ts p s ev)
 onward ts p q s ev h = run-keeps ts (λ s1 _. q ≤ s1 .pos .0) (keeps ts (λ s1 _. q ≤ s1 .pos .0) (λ s ev s1 e m g. omega arith) (λ s ev s1 e m g. omega arith)) p s ev h
 
 -- it stays within the tokens
-pub within : {A : Type 0} (ts : Tokens) (p : Prog A) (s : State) (ev : List ℕ) → s .pos .0 ≤ length (ts .kinds) → Kept (λ s1 _. s1 .pos .0 ≤ length (ts .kinds)) (run ts p s ev)
-within ts p s ev h = run-keeps ts (λ s1 _. s1 .pos .0 ≤ length (ts .kinds)) (keeps ts (λ s1 _. s1 .pos .0 ≤ length (ts .kinds)) (λ s ev s1 e m g. omega arith) (λ s ev s1 e m g. omega arith)) p s ev h
+pub stays-within : {A : Type 0} (ts : Tokens) (p : Prog A) (s : State) (ev : List ℕ) → s .pos .0 ≤ length (ts .kinds) → Kept (λ s1 _. s1 .pos .0 ≤ length (ts .kinds)) (run ts p s ev)
+stays-within ts p s ev h = run-keeps ts (λ s1 _. s1 .pos .0 ≤ length (ts .kinds)) (keeps ts (λ s1 _. s1 .pos .0 ≤ length (ts .kinds)) (λ s ev s1 e m g. omega arith) (λ s ev s1 e m g. omega arith)) p s ev h
 
 -- the lent list keeps its length
 length-go : {A : Type 0} (x : Reply A) (e : List ℕ) (n : ℕ) → Kept (λ _ l. length l ≡ n) (x, e) → length e ≡ n

@@ -8,7 +8,7 @@ use Rattle.base.specs.Base.{whether, bound}
 use Rattle.input.specs.SyntaxKind.{FLOAT-NUMBER, FIELD-EXPR, EVENTS-FULL, UNFIT}
 use Rattle.input.specs.Input.{Tokens, kindAt, jointAt, stands, present, widthOf, isKind, isNode, isCode, refusal}
 use Rattle.input.specs.declared.Refusal.{Refusal}
-use Rattle.event.specs.Event.{flagOf, nodeOf, offsetOf, startEntry, precedingEntry, fieldEntry, finishEntry, tokenEntry, splitEntry, errorEntry, namedEntry, spentEntry, extendedEntry, parentedEntry, isLive, isNamed, capacityOf}
+use Rattle.event.specs.Event.{flagOf, nodeOf, offsetOf, startEntry, precedingEntry, fieldEntry, finishEntry, tokenEntry, splitEntry, errorEntry, namedEntry, spentEntry, extendedEntry, parentedEntry, isLive, isNamed, eventLimit, capacityOf}
 use Rattle.event.specs.declared.State.{State}
 use Rattle.parser.specs.declared.Marker.{Marker}
 use Rattle.parser.specs.declared.CompletedMarker.{CompletedMarker}
@@ -98,13 +98,15 @@ precedeOf s m ev =
     (λ _. (opened.Refused (unfit (m .0)), ev)))
     (λ _. (opened.Refused (unfit (m .0)), ev))
 
--- "extend: a closed marker after an open one; the open one gets it as forward parent and is spent."
+-- "extend: a closed marker after an open one; the open one gets it as forward parent and is spent." A number from the limit of the list on is a marker of no list in range.
 unfoldable pub extendOf : State → CompletedMarker → Marker → List ℕ → Closed × List ℕ
 extendOf s c m ev =
     whether (isOpen s (m .0) ev)
     (λ _. whether (isClosed s (c .0) ev)
     (λ _. whether (ltb (m .0) (c .0))
+    (λ _. whether (ltb (c .0) eventLimit)
     (λ _. (closed.Done s c, set ev (m .0) (extendedEntry (getD ev (m .0) 0) (c .0 - m .0))))
+    (λ _. (closed.Refused (unfit (m .0)), ev)))
     (λ _. (closed.Refused (unfit (m .0)), ev)))
     (λ _. (closed.Refused (unfit (m .0)), ev)))
     (λ _. (closed.Refused (unfit (m .0)), ev))

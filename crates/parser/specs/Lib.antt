@@ -1,3 +1,4 @@
 pub mod Calls
 pub mod Public
 pub mod Prog
+mod Worked

@@ -47,10 +47,17 @@ soundOf s ev = whether (inRange tokenLimit s ev) (λ _. soundEvents ev (s .count
 unfoldable pub hasName : ℕ → Bool
 hasName x = whether (eqb (tagOf x) START) (λ _. ltb SPENT (rankOf x)) (λ _. false)
 
+-- how many names an entry has
+abbrev pub namesOf : ℕ → ℕ
+namesOf x = whether (hasName x) (λ _. 1) (λ _. 0)
+
+abbrev pub isSplit : ℕ → Bool
+isSplit x = eqb (tagOf x) SPLIT-TAG
+
 -- how many steps an entry gives by itself; the first argument says whether a split stands right before it
 unfoldable pub stepsAt : Bool → ℕ → ℕ
 stepsAt after x =
-    whether (eqb (tagOf x) START) (λ _. whether (hasName x) (λ _. 1) (λ _. 0)) λ _.
+    whether (eqb (tagOf x) START) (λ _. namesOf x) λ _.
     whether (eqb (tagOf x) TOKEN-TAG) (λ _. 1) λ _.
     whether (eqb (tagOf x) SPLIT-TAG) (λ _. 1) λ _.
     whether (eqb (tagOf x) ERROR-TAG) (λ _. 1) λ _.
@@ -59,7 +66,7 @@ stepsAt after x =
 unfoldable pub countTurn : List ℕ → ℕ → ℕ × ℕ × Bool → Next (ℕ × ℕ × Bool) ℕ
 countTurn ev n z =
     whether (ltb (z .0) n)
-    (λ _. again (z .0 + 1, z .1 + stepsAt (z .2) (getD ev (z .0) 0), eqb (tagOf (getD ev (z .0) 0)) SPLIT-TAG))
+    (λ _. again (z .0 + 1, z .1 + stepsAt (z .2) (getD ev (z .0) 0), isSplit (getD ev (z .0) 0)))
     (λ _. done (z .1))
 
 unfoldable pub countOf : List ℕ → ℕ → ℕ
@@ -72,7 +79,7 @@ unfoldable pub chainTurn : List ℕ → ℕ → ℕ × ℕ → Next (ℕ × ℕ)
 chainTurn ev n z =
     whether (ltb (z .0) n)
     (λ _. bound (getD ev (z .0) 0) λ x.
-    bound (z .1 + whether (hasName x) (λ _. 1) (λ _. 0)) λ k.
+    bound (z .1 + namesOf x) λ k.
     whether (eqb (forwardOf x) 0) (λ _. done k) (λ _. again (z .0 + forwardOf x, k)))
     (λ _. done (z .1))
 
@@ -86,13 +93,17 @@ visitedEntry = entry START SPENT 0 0 0
 unfoldable pub visited : ℕ → ℕ
 visited x = whether (eqb (tagOf x) START) (λ _. visitedEntry) (λ _. x)
 
+-- the enter of a start that has a name
+abbrev pub enteredOf : List ℕ → ℕ → ℕ → List ℕ
+enteredOf st at x = whether (hasName x) (λ _. set st at (ENTER + nodeOf x)) (λ _. st)
+
 -- the enters of a chain, written below top: a turn over (start, top, events, steps)
 unfoldable pub enterTurn : ℕ → ℕ × ℕ × List ℕ × List ℕ → Next (ℕ × ℕ × List ℕ × List ℕ) (List ℕ × List ℕ)
 enterTurn n z =
     whether (ltb (z .0) n)
     (λ _. bound (getD (z .2) (z .0) 0) λ x.
-    bound (z .1 - whether (hasName x) (λ _. 1) (λ _. 0)) λ top.
-    bound (whether (hasName x) (λ _. set (z .3) top (ENTER + nodeOf x)) (λ _. z .3)) λ st.
+    bound (z .1 - namesOf x) λ top.
+    bound (enteredOf (z .3) top x) λ st.
     bound (set (z .2) (z .0) (visited x)) λ ev.
     whether (eqb (forwardOf x) 0) (λ _. done (ev, st)) (λ _. again (z .0 + forwardOf x, top, ev, st)))
     (λ _. done (z .2, z .3))
@@ -116,7 +127,7 @@ processTurn n z =
     whether (eqb (tagOf x) START)
     (λ _. bound (z .1 + chainOf (z .3) n (z .0)) λ top. called (enterOf (z .3) (z .4) n (z .0) top) λ ev st. again (z .0 + 1, top, false, ev, st)) λ _.
     whether (eqb (stepsAt (z .2) x) 1)
-    (λ _. again (z .0 + 1, z .1 + 1, eqb (tagOf x) SPLIT-TAG, z .3, set (z .4) (z .1) (stepOf x)))
+    (λ _. again (z .0 + 1, z .1 + 1, isSplit x, z .3, set (z .4) (z .1) (stepOf x)))
     (λ _. again (z .0 + 1, z .1, false, z .3, z .4)))
     (λ _. done (z .1, z .4))
 

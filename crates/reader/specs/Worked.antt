@@ -12,13 +12,13 @@ use Rattle.parser.specs.Prog.{then, turns, onOpened, onClosed, onMoved, onTaken
 use Rattle.process.specs.Process.{forwardOf, landsAt, pairedAt, soundAt, soundTurn, soundEvents, soundOf, hasName, stepsAt, countTurn, countOf, chainTurn, chainOf, visited, enterTurn, enterOf, stepOf, processTurn, writeOf, processOf}
 use Rattle.grammar.specs.TokenSet.{isFirst, isClosing, endsArguments, isPrefix, isFieldName, outsideAtom, outsideType}
 use Rattle.grammar.specs.Strength.{orOp, pipeOp, rAngleOp, lAngleOp, ampOp, eqOp, dotOp, bangOp, arithOp, opOf, currentOp, onSide, rightOf, isRange, operandFollows}
-use Rattle.grammar.specs.Atom.{bump, begin, lead, expect, closing, leaf, beginError, errAndBump, errRecover, segment, firstPath, qualified, pathTurn, pathRest, path, noMacro, plainPath, pathNode, afterType, pathType, castType, castExpr}
-use Rattle.grammar.specs.Expressions.{yields, given, givenUp, loneDot, anyway, loneComma, noComma, afterArgument, argument, arguments, argList, callExpr, indexExpr, tryExpr, dotted, awaitExpr, noGenerics, methodName, methodHead, onward, floatField, namedField, noField, field, fieldExpr, beginRef, parenTail, isMethod, isDots, nameAt, turning, methodCallExpr, postfixDotExpr, postfixTurn, postfixExpr, parenBody, parenExpr, atomExpr, atomPostfix, refExpr, prefixExpr, leadingRange, rangeOrAtom, lhs, binExpr, rangeExpr, operatorTurn, operators, extended, expression, noExpression, exprBp}
+use Rattle.grammar.specs.Atom.{bump, begin, lead, expect, closing, leaf, beginError, errAndBump, errRecover, segment, firstPath, qualified, turning, pathTurn, pathRest, path, noMacro, plainPath, pathNode, afterType, pathType, castType, castExpr}
+use Rattle.grammar.specs.Expressions.{yields, given, givenUp, extendTo, loneDot, anyway, loneComma, noComma, afterArgument, argument, arguments, argList, callExpr, indexExpr, tryExpr, dotted, awaitExpr, noGenerics, methodName, methodHead, onward, floatField, namedField, noField, field, fieldExpr, plainAtom, beginRef, parenTail, isMethod, isDots, nameAt, methodCallExpr, postfixDotExpr, postfixTurn, postfixExpr, parenBody, parenExpr, atomExpr, atomPostfix, refExpr, prefixExpr, leadingRange, rangeOrAtom, lhs, binExpr, rangeExpr, operatorTurn, operators, extended, expression, noExpression, exprBp}
 use Rattle.reader.specs.Reader.{cleared, refusing, onProcessed, onRead, topOf, parseOf, consumedOf, stepsOf}
 
 -- what a list gives with room of 16n + 16: consumed, and the steps
 unfoldable pub read : List ℕ → List ℕ → ℕ × List ℕ
-unfolding whether called bound onNext loops tokenLimit depthLimit widthLimit stands gluedTable rowOf isGlued rowParts partsOf widthOf follow present isRaw isJoint isKind isNode isCode firstOff lengthsOf bytesOf onChecked tokensOf statusOf view decodes isLive isNamed eventLimit capacityOf inRange roomFor isOpen isClosed startOf completeOf isLast abandonOf precedeOf extendOf eatOf bumpAnyOf errorOf splitDotOf splitTwoOf splitOf then turns onOpened onClosed onMoved onTaken onParted run forwardOf landsAt pairedAt soundAt soundTurn soundEvents soundOf hasName stepsAt countTurn countOf chainTurn chainOf visited enterTurn enterOf stepOf processTurn writeOf processOf orOp pipeOp rAngleOp lAngleOp ampOp eqOp dotOp bangOp arithOp opOf currentOp onSide rightOf isRange operandFollows isFirst isClosing endsArguments isPrefix isFieldName outsideAtom outsideType bump begin lead expect closing leaf beginError errAndBump errRecover segment firstPath qualified pathTurn pathRest path noMacro plainPath pathNode afterType pathType castType castExpr yields given givenUp loneDot anyway loneComma noComma afterArgument argument arguments argList callExpr indexExpr tryExpr dotted awaitExpr noGenerics methodName methodHead onward floatField namedField noField field fieldExpr beginRef parenTail isMethod isDots nameAt turning methodCallExpr postfixDotExpr postfixTurn postfixExpr parenBody parenExpr atomExpr atomPostfix refExpr prefixExpr leadingRange rangeOrAtom lhs binExpr rangeExpr operatorTurn operators extended expression noExpression exprBp cleared refusing onProcessed onRead topOf parseOf
+unfolding whether called bound onNext loops tokenLimit depthLimit widthLimit stands gluedTable rowOf isGlued rowParts partsOf widthOf follow present isRaw isJoint isKind isNode isCode firstOff lengthsOf bytesOf onChecked tokensOf statusOf view decodes isLive isNamed eventLimit capacityOf inRange roomFor isOpen isClosed startOf completeOf isLast abandonOf precedeOf extendOf eatOf bumpAnyOf errorOf splitDotOf splitTwoOf splitOf then turns onOpened onClosed onMoved onTaken onParted run forwardOf landsAt pairedAt soundAt soundTurn soundEvents soundOf hasName stepsAt countTurn countOf chainTurn chainOf visited enterTurn enterOf stepOf processTurn writeOf processOf orOp pipeOp rAngleOp lAngleOp ampOp eqOp dotOp bangOp arithOp opOf currentOp onSide rightOf isRange operandFollows isFirst isClosing endsArguments isPrefix isFieldName outsideAtom outsideType bump begin lead expect closing leaf beginError errAndBump errRecover segment firstPath qualified turning pathTurn pathRest path noMacro plainPath pathNode afterType pathType castType castExpr yields given givenUp extendTo loneDot anyway loneComma noComma afterArgument argument arguments argList callExpr indexExpr tryExpr dotted awaitExpr noGenerics methodName methodHead onward floatField namedField noField field fieldExpr plainAtom beginRef parenTail isMethod isDots nameAt methodCallExpr postfixDotExpr postfixTurn postfixExpr parenBody parenExpr atomExpr atomPostfix refExpr prefixExpr leadingRange rangeOrAtom lhs binExpr rangeExpr operatorTurn operators extended expression noExpression exprBp cleared refusing onProcessed onRead topOf parseOf
 read ks js =
     let room : ℕ = 16 * length ks + 16 in
     let r : _ = parseOf (lent ks js) (replicate room 7) (replicate room 7) in

@@ -1,0 +1,3 @@
+pub mod Putting
+pub mod Laws
+pub mod Fits

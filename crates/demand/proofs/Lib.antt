@@ -1,0 +1,16 @@
+pub mod Sums
+pub mod Events
+pub mod Pass
+pub mod Chain
+pub mod Passing
+pub mod Tokens
+pub mod Seen
+pub mod Keeping
+pub mod Calls
+pub mod Sound
+pub mod Entering
+pub mod Written
+pub mod Passes
+pub mod Demanded
+pub mod Reading
+pub mod Whole

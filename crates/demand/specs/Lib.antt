@@ -1,0 +1,5 @@
+pub mod Lists
+pub mod Runs
+pub mod Steps
+pub mod Demand
+pub mod Worked

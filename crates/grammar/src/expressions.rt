@@ -1,0 +1,846 @@
+// Expressions: operators by strength, prefixes, postfix forms, arguments.
+ghost use mathlib.Core.Path.{_≡_};
+ghost use mathlib.Core.Bool.{Bool};
+ghost use Rattle.input.specs.Input.{lent};
+ghost use Rattle.parser.specs.Prog.{run};
+ghost use Rattle.grammar.specs.Views.{openedReply, closedReply, movedReply, readingReply, turnReply, postfixReply, argsReply, argsEnd, missingOf, lastOf};
+ghost use Rattle.grammar.specs.Expressions.{afterArgument, argument, arguments, argList, callExpr, indexExpr, tryExpr, dotted, awaitExpr, noGenerics, methodName, methodHead, floatField, namedField, noField, field, fieldExpr, beginRef, parenTail, isMethod, isDots, nameAt, methodCallExpr, postfixDotExpr, postfixTurn, postfixExpr, parenExpr, atomExpr, refExpr, prefixExpr, leadingRange, lhs, binExpr, rangeExpr, operatorTurn, operators, extended, expression, noExpression, exprBp, plainAtom, givenUp, loneComma, loneDot, noComma, atomPostfix};
+use crate::{Args, Op, Postfix, Reading, Turn};
+use crate::atom::{begin, bump, closing, err_and_bump, err_recover, lead, leaf, postfix_of, reading_of, turn_of};
+use crate::operator::{current_op, is_range, operand_follows, right_of};
+use crate::paths::path_node;
+use crate::token_set::{ends_arguments, is_field_name, is_first, is_prefix, outside_atom};
+use crate::types::cast_expr;
+use event::State;
+use input::{Depth, Refusal, joint_at, kind_at, nth_at};
+use input::syntax_kind::{AMP, ARG_LIST, AS_KW, AWAIT_EXPR, AWAIT_KW, BIN_EXPR, CALL_EXPR, COLON2, COMMA, DOT, DOT2, DOT2EQ, EXPECTED_COMMA, EXPECTED_FIELD, EXPECTED_METHOD_NAME, EXPECTED_R_BRACK, EXPECTED_R_PAREN, FIELD_EXPR, FLOAT_NUMBER, IDENT, INDEX_EXPR, L_BRACK, L_PAREN, LITERAL, METHOD_CALL_EXPR, MUT_KW, NAME_REF, OUTSIDE_CUT, PAREN_EXPR, PATH_EXPR, PREFIX_EXPR, QUESTION, R_BRACK, R_PAREN, RANGE_EXPR, REF_EXPR, TOO_DEEP, TRY_EXPR, UNFIT};
+use parser::{Closed, CompletedMarker, Marker, Moved, Opened, Parted, Taken};
+use parser::inner::{abandon, complete, eat, error, extend_to, precede, split_float, start};
+
+// The strength of the whole, of the operand of a leading range, and of a prefix operand.
+const TOP: u16 = 1;
+const RANGE: u16 = 2;
+const OPERAND: u16 = 255;
+
+// Reads an expression whose operators have at least strength b. e.g. 1 + 2 * 3
+pub fn expr_bp(kinds: &[u8],
+    joints: &[u8],
+    events: &mut [u64],
+    state: State, b: u16, depth: Depth) -> Reading
+    ensures { λ r. ⌜ (readingReply r, now (events .exit)) ≡ run (lent (now (kinds .entry)) (now (joints .entry))) (exprBp (depth .0) (lent (now (kinds .entry)) (now (joints .entry))) b) state (now (events .entry)) ⌝ }
+{
+    let left = depth.0;
+    if left == 0 {
+        return Reading::Refused(Refusal {
+            number: TOO_DEEP,
+            place: state.pos.0,
+        });
+    }
+    let inner = Depth(left - 1);
+    match start(events, state) {
+        Opened::Open(s1, m) => {
+            let at = s1.pos.0;
+            let kind = kind_at(kinds, at);
+            if is_first(kind) {
+                return expression(kinds, joints, events, s1, m, b, inner);
+            }
+            no_expression(kinds, joints, events, s1, m)
+        }
+        Opened::Refused(r) => Reading::Refused(r),
+    }
+}
+
+// The left part and the operators that follow it.
+fn expression(kinds: &[u8],
+    joints: &[u8],
+    events: &mut [u64],
+    state: State, m: Marker, b: u16, inner: Depth) -> Reading
+    ensures { λ r. ⌜ (readingReply r, now (events .exit)) ≡ run (lent (now (kinds .entry)) (now (joints .entry))) (expression (lent (now (kinds .entry)) (now (joints .entry))) (exprBp (inner .0) (lent (now (kinds .entry)) (now (joints .entry)))) b m) state (now (events .entry)) ⌝ }
+{
+    let r = extended(kinds, joints, events, state, m, inner);
+    let Reading::Expr(s1, lhs) = r else {
+        return r;
+    };
+    reading_of(operators(kinds, joints, events, s1, lhs, b, inner))
+}
+
+// Error 1 instead of an expression.
+fn no_expression(kinds: &[u8],
+    joints: &[u8],
+    events: &mut [u64],
+    state: State, m: Marker) -> Reading
+    ensures { λ r. ⌜ (readingReply r, now (events .exit)) ≡ run (lent (now (kinds .entry)) (now (joints .entry))) (noExpression (lent (now (kinds .entry)) (now (joints .entry))) m) state (now (events .entry)) ⌝ }
+{
+    match err_recover(kinds, joints, events, state) {
+        Moved::On(s1) => given_up(kinds, joints, events, s1, m),
+        Moved::Refused(r) => Reading::Refused(r),
+    }
+}
+
+// The marker of a reading that yields no expression.
+fn given_up(kinds: &[u8],
+    joints: &[u8],
+    events: &mut [u64],
+    state: State, m: Marker) -> Reading
+    ensures { λ r. ⌜ (readingReply r, now (events .exit)) ≡ run (lent (now (kinds .entry)) (now (joints .entry))) (givenUp m) state (now (events .entry)) ⌝ }
+{
+    match abandon(events, state, m) {
+        Moved::On(s1) => Reading::NoExpr(s1),
+        Moved::Refused(r) => Reading::Refused(r),
+    }
+}
+
+// A left part that yields no expression: its reading's marker is abandoned.
+fn missing(kinds: &[u8], joints: &[u8], events: &mut [u64], r: Reading, m: Marker) -> Reading
+    ensures { λ y. ⌜ (readingReply y, now (events .exit)) ≡ missingOf (lent (now (kinds .entry)) (now (joints .entry))) r m (now (events .entry)) ⌝ }
+{
+    match r {
+        Reading::Expr(s, c) => Reading::Expr(s, c),
+        Reading::NoExpr(s) => given_up(kinds, joints, events, s, m),
+        Reading::Refused(n) => Reading::Refused(n),
+    }
+}
+
+// The left part, extended to the reading's marker.
+fn extended(kinds: &[u8],
+    joints: &[u8],
+    events: &mut [u64],
+    state: State, m: Marker, inner: Depth) -> Reading
+    ensures { λ r. ⌜ (readingReply r, now (events .exit)) ≡ run (lent (now (kinds .entry)) (now (joints .entry))) (extended (lent (now (kinds .entry)) (now (joints .entry))) (exprBp (inner .0) (lent (now (kinds .entry)) (now (joints .entry)))) m) state (now (events .entry)) ⌝ }
+{
+    let r = lhs(kinds, joints, events, state, inner);
+    let Reading::Expr(s1, c) = r else {
+        return missing(kinds, joints, events, r, m);
+    };
+    reading_of(extend_to(events, s1, c, m))
+}
+
+// The operators of at least strength b that follow an expression.
+fn operators(kinds: &[u8],
+    joints: &[u8],
+    events: &mut [u64],
+    state: State, first: CompletedMarker, b: u16, inner: Depth) -> Closed
+    ensures { λ r. ⌜ (closedReply r, now (events .exit)) ≡ run (lent (now (kinds .entry)) (now (joints .entry))) (operators (lent (now (kinds .entry)) (now (joints .entry))) (exprBp (inner .0) (lent (now (kinds .entry)) (now (joints .entry)))) b first) state (now (events .entry)) ⌝ }
+{
+    let mut s = state;
+    let mut m = first;
+    loop {
+        match operator_turn(kinds, joints, events, s, m, b, inner) {
+            Turn::Again(s1, m1) => {
+                s = s1;
+                m = m1;
+            }
+            Turn::Done(s1, m1) => return Closed::Done(s1, m1),
+            Turn::Refused(r) => return Closed::Refused(r),
+        }
+    }
+}
+
+// One operator, or the end.
+fn operator_turn(kinds: &[u8],
+    joints: &[u8],
+    events: &mut [u64],
+    state: State, m: CompletedMarker, b: u16, inner: Depth) -> Turn
+    ensures { λ r. ⌜ (turnReply r, now (events .exit)) ≡ run (lent (now (kinds .entry)) (now (joints .entry))) (operatorTurn (lent (now (kinds .entry)) (now (joints .entry))) (exprBp (inner .0) (lent (now (kinds .entry)) (now (joints .entry)))) b m) state (now (events .entry)) ⌝ }
+{
+    let at = state.pos.0;
+    let op = current_op(kinds, joints, at);
+    if (op.strength as u16) < b {
+        return Turn::Done(state, m);
+    }
+    if op.kind == AS_KW {
+        return turn_of(cast_expr(kinds, joints, events, state, m));
+    }
+    if is_range(op) {
+        return range_expr(kinds, joints, events, state, op, m, inner);
+    }
+    turn_of(bin_expr(kinds, joints, events, state, op, m, inner))
+}
+
+// e.g. a * b
+fn bin_expr(kinds: &[u8],
+    joints: &[u8],
+    events: &mut [u64],
+    state: State, op: Op, m: CompletedMarker, inner: Depth) -> Closed
+    ensures { λ r. ⌜ (closedReply r, now (events .exit)) ≡ run (lent (now (kinds .entry)) (now (joints .entry))) (binExpr (lent (now (kinds .entry)) (now (joints .entry))) (exprBp (inner .0) (lent (now (kinds .entry)) (now (joints .entry)))) op m) state (now (events .entry)) ⌝ }
+{
+    match lead(kinds, joints, events, state, m, op.kind) {
+        Opened::Open(s1, o) => {
+            let right = right_of(op);
+            match expr_bp(kinds, joints, events, s1, right, inner) {
+                Reading::Expr(s2, _) => complete(events, s2, o, BIN_EXPR),
+                Reading::NoExpr(s2) => complete(events, s2, o, BIN_EXPR),
+                Reading::Refused(r) => Closed::Refused(r),
+            }
+        }
+        Opened::Refused(r) => Closed::Refused(r),
+    }
+}
+
+// e.g. 1..2, 1..
+fn range_expr(kinds: &[u8],
+    joints: &[u8],
+    events: &mut [u64],
+    state: State, op: Op, m: CompletedMarker, inner: Depth) -> Turn
+    ensures { λ r. ⌜ (turnReply r, now (events .exit)) ≡ run (lent (now (kinds .entry)) (now (joints .entry))) (rangeExpr (lent (now (kinds .entry)) (now (joints .entry))) (exprBp (inner .0) (lent (now (kinds .entry)) (now (joints .entry)))) op m) state (now (events .entry)) ⌝ }
+{
+    match lead(kinds, joints, events, state, m, op.kind) {
+        Opened::Open(s1, o) => {
+            let at = s1.pos.0;
+            if !operand_follows(kinds, joints, at) {
+                return last_of(complete(events, s1, o, RANGE_EXPR));
+            }
+            let right = right_of(op);
+            match expr_bp(kinds, joints, events, s1, right, inner) {
+                Reading::Expr(s2, _) => turn_of(complete(events, s2, o, RANGE_EXPR)),
+                Reading::NoExpr(s2) => turn_of(complete(events, s2, o, RANGE_EXPR)),
+                Reading::Refused(r) => Turn::Refused(r),
+            }
+        }
+        Opened::Refused(r) => Turn::Refused(r),
+    }
+}
+
+// A node after which the operators end.
+fn last_of(c: Closed) -> Turn
+    ensures { λ r. ⌜ r ≡ lastOf c ⌝ }
+{
+    match c {
+        Closed::Done(s, m) => Turn::Done(s, m),
+        Closed::Refused(r) => Turn::Refused(r),
+    }
+}
+
+// The left part: a prefix, a leading range, or an atom with its postfix forms.
+fn lhs(kinds: &[u8],
+    joints: &[u8],
+    events: &mut [u64],
+    state: State, inner: Depth) -> Reading
+    ensures { λ r. ⌜ (readingReply r, now (events .exit)) ≡ run (lent (now (kinds .entry)) (now (joints .entry))) (lhs (lent (now (kinds .entry)) (now (joints .entry))) (exprBp (inner .0) (lent (now (kinds .entry)) (now (joints .entry))))) state (now (events .entry)) ⌝ }
+{
+    let at = state.pos.0;
+    let kind = kind_at(kinds, at);
+    if kind == AMP {
+        return reading_of(ref_expr(kinds, joints, events, state, inner));
+    }
+    if is_prefix(kind) {
+        return reading_of(prefix_expr(kinds, joints, events, state, kind, inner));
+    }
+    if nth_at(kinds, joints, at, DOT2EQ) {
+        return reading_of(leading_range(kinds, joints, events, state, DOT2EQ, inner));
+    }
+    if nth_at(kinds, joints, at, DOT2) {
+        return reading_of(leading_range(kinds, joints, events, state, DOT2, inner));
+    }
+    atom_postfix(kinds, joints, events, state, inner)
+}
+
+fn atom_postfix(kinds: &[u8],
+    joints: &[u8],
+    events: &mut [u64],
+    state: State, inner: Depth) -> Reading
+    ensures { λ r. ⌜ (readingReply r, now (events .exit)) ≡ run (lent (now (kinds .entry)) (now (joints .entry))) (atomPostfix (lent (now (kinds .entry)) (now (joints .entry))) (exprBp (inner .0) (lent (now (kinds .entry)) (now (joints .entry))))) state (now (events .entry)) ⌝ }
+{
+    let r = atom_expr(kinds, joints, events, state, inner);
+    let Reading::Expr(s1, m) = r else {
+        return r;
+    };
+    reading_of(postfix_expr(kinds, joints, events, s1, m, inner))
+}
+
+fn begin_ref(kinds: &[u8],
+    joints: &[u8],
+    events: &mut [u64],
+    state: State) -> Opened
+    ensures { λ r. ⌜ (openedReply r, now (events .exit)) ≡ run (lent (now (kinds .entry)) (now (joints .entry))) (beginRef) state (now (events .entry)) ⌝ }
+{
+    match begin(kinds, joints, events, state, AMP) {
+        Opened::Open(s1, m) => match eat(kinds, joints, events, s1, MUT_KW) {
+            Taken::Took(s2) => Opened::Open(s2, m),
+            Taken::No => Opened::Open(s1, m),
+            Taken::Refused(r) => Opened::Refused(r),
+        },
+        Opened::Refused(r) => Opened::Refused(r),
+    }
+}
+
+// e.g. &1, &mut a
+fn ref_expr(kinds: &[u8],
+    joints: &[u8],
+    events: &mut [u64],
+    state: State, inner: Depth) -> Closed
+    ensures { λ r. ⌜ (closedReply r, now (events .exit)) ≡ run (lent (now (kinds .entry)) (now (joints .entry))) (refExpr (lent (now (kinds .entry)) (now (joints .entry))) (exprBp (inner .0) (lent (now (kinds .entry)) (now (joints .entry))))) state (now (events .entry)) ⌝ }
+{
+    match begin_ref(kinds, joints, events, state) {
+        Opened::Open(s1, m) => match expr_bp(kinds, joints, events, s1, OPERAND, inner) {
+            Reading::Expr(s2, _) => complete(events, s2, m, REF_EXPR),
+            Reading::NoExpr(s2) => complete(events, s2, m, REF_EXPR),
+            Reading::Refused(r) => Closed::Refused(r),
+        },
+        Opened::Refused(r) => Closed::Refused(r),
+    }
+}
+
+// e.g. **&1, !!true, --1
+fn prefix_expr(kinds: &[u8],
+    joints: &[u8],
+    events: &mut [u64],
+    state: State, kind: u8, inner: Depth) -> Closed
+    ensures { λ r. ⌜ (closedReply r, now (events .exit)) ≡ run (lent (now (kinds .entry)) (now (joints .entry))) (prefixExpr (lent (now (kinds .entry)) (now (joints .entry))) (exprBp (inner .0) (lent (now (kinds .entry)) (now (joints .entry)))) kind) state (now (events .entry)) ⌝ }
+{
+    match begin(kinds, joints, events, state, kind) {
+        Opened::Open(s1, m) => match expr_bp(kinds, joints, events, s1, OPERAND, inner) {
+            Reading::Expr(s2, _) => complete(events, s2, m, PREFIX_EXPR),
+            Reading::NoExpr(s2) => complete(events, s2, m, PREFIX_EXPR),
+            Reading::Refused(r) => Closed::Refused(r),
+        },
+        Opened::Refused(r) => Closed::Refused(r),
+    }
+}
+
+// e.g. .., ..=1
+fn leading_range(kinds: &[u8],
+    joints: &[u8],
+    events: &mut [u64],
+    state: State, kind: u8, inner: Depth) -> Closed
+    ensures { λ r. ⌜ (closedReply r, now (events .exit)) ≡ run (lent (now (kinds .entry)) (now (joints .entry))) (leadingRange (lent (now (kinds .entry)) (now (joints .entry))) (exprBp (inner .0) (lent (now (kinds .entry)) (now (joints .entry)))) kind) state (now (events .entry)) ⌝ }
+{
+    match begin(kinds, joints, events, state, kind) {
+        Opened::Open(s1, m) => {
+            let at = s1.pos.0;
+            if !operand_follows(kinds, joints, at) {
+                return complete(events, s1, m, RANGE_EXPR);
+            }
+            match expr_bp(kinds, joints, events, s1, RANGE, inner) {
+                Reading::Expr(s2, _) => complete(events, s2, m, RANGE_EXPR),
+                Reading::NoExpr(s2) => complete(events, s2, m, RANGE_EXPR),
+                Reading::Refused(r) => Closed::Refused(r),
+            }
+        }
+        Opened::Refused(r) => Closed::Refused(r),
+    }
+}
+
+// The postfix forms that follow an expression. e.g. a(1)[2].b?
+fn postfix_expr(kinds: &[u8],
+    joints: &[u8],
+    events: &mut [u64],
+    state: State, first: CompletedMarker, inner: Depth) -> Closed
+    ensures { λ r. ⌜ (closedReply r, now (events .exit)) ≡ run (lent (now (kinds .entry)) (now (joints .entry))) (postfixExpr (lent (now (kinds .entry)) (now (joints .entry))) (exprBp (inner .0) (lent (now (kinds .entry)) (now (joints .entry)))) first) state (now (events .entry)) ⌝ }
+{
+    let mut s = state;
+    let mut m = first;
+    let mut recovery = false;
+    loop {
+        match postfix_turn(kinds, joints, events, s, m, recovery, inner) {
+            Postfix::Again(s1, m1, next) => {
+                s = s1;
+                m = m1;
+                recovery = next;
+            }
+            Postfix::Done(s1, m1) => return Closed::Done(s1, m1),
+            Postfix::Refused(r) => return Closed::Refused(r),
+        }
+    }
+}
+
+// One postfix form, or the end.
+fn postfix_turn(kinds: &[u8],
+    joints: &[u8],
+    events: &mut [u64],
+    state: State, m: CompletedMarker, recovery: bool, inner: Depth) -> Postfix
+    ensures { λ r. ⌜ (postfixReply r, now (events .exit)) ≡ run (lent (now (kinds .entry)) (now (joints .entry))) (postfixTurn (lent (now (kinds .entry)) (now (joints .entry))) (exprBp (inner .0) (lent (now (kinds .entry)) (now (joints .entry)))) (m, recovery)) state (now (events .entry)) ⌝ }
+{
+    if recovery {
+        return postfix_dot_expr(kinds, joints, events, state, m, true, inner);
+    }
+    let at = state.pos.0;
+    let kind = kind_at(kinds, at);
+    match kind {
+        L_PAREN => postfix_of(call_expr(kinds, joints, events, state, m, inner)),
+        L_BRACK => postfix_of(index_expr(kinds, joints, events, state, m, inner)),
+        DOT => postfix_dot_expr(kinds, joints, events, state, m, false, inner),
+        QUESTION => postfix_of(try_expr(kinds, joints, events, state, m)),
+        _ => Postfix::Done(state, m),
+    }
+}
+
+// A method call, `.await` or a field; the postfix forms end before `..` and `..=`.
+fn postfix_dot_expr(kinds: &[u8],
+    joints: &[u8],
+    events: &mut [u64],
+    state: State, m: CompletedMarker, recovery: bool, inner: Depth) -> Postfix
+    ensures { λ r. ⌜ (postfixReply r, now (events .exit)) ≡ run (lent (now (kinds .entry)) (now (joints .entry))) (postfixDotExpr (lent (now (kinds .entry)) (now (joints .entry))) (exprBp (inner .0) (lent (now (kinds .entry)) (now (joints .entry)))) recovery m) state (now (events .entry)) ⌝ }
+{
+    let at = state.pos.0;
+    let name = name_at(kinds, joints, recovery, at);
+    if is_method(kinds, joints, name) {
+        return postfix_of(method_call_expr(kinds, joints, events, state, m, recovery, inner));
+    }
+    if kind_at(kinds, name) == AWAIT_KW {
+        return postfix_of(await_expr(kinds, joints, events, state, m, recovery));
+    }
+    if is_dots(kinds, joints, at) {
+        return Postfix::Done(state, m);
+    }
+    field_expr(kinds, joints, events, state, m, recovery)
+}
+
+// Where the name after a dot stands; past the end there is none.
+fn name_at(kinds: &[u8], joints: &[u8], recovery: bool, at: usize) -> usize
+    ensures { λ r. ⌜ r ≡ nameAt (lent (now (kinds .entry)) (now (joints .entry))) recovery at ⌝ }
+{
+    if recovery {
+        return at;
+    }
+    if at < kinds.len() {
+        return at + 1;
+    }
+    at
+}
+
+// A name with `(` or `::` behind it, or `(` itself.
+fn is_method(kinds: &[u8], joints: &[u8], at: usize) -> bool
+    ensures { λ r. ⌜ r ≡ isMethod (lent (now (kinds .entry)) (now (joints .entry))) at ⌝ }
+{
+    let kind = kind_at(kinds, at);
+    if kind == L_PAREN {
+        return true;
+    }
+    if kind != IDENT {
+        return false;
+    }
+    let next = kind_at(kinds, at + 1);
+    if next == L_PAREN {
+        return true;
+    }
+    nth_at(kinds, joints, at + 1, COLON2)
+}
+
+fn is_dots(kinds: &[u8], joints: &[u8], at: usize) -> bool
+    ensures { λ r. ⌜ r ≡ isDots (lent (now (kinds .entry)) (now (joints .entry))) at ⌝ }
+{
+    if nth_at(kinds, joints, at, DOT2EQ) {
+        return true;
+    }
+    nth_at(kinds, joints, at, DOT2)
+}
+
+// e.g. f(1, 2,)
+fn call_expr(kinds: &[u8],
+    joints: &[u8],
+    events: &mut [u64],
+    state: State, m: CompletedMarker, inner: Depth) -> Closed
+    ensures { λ r. ⌜ (closedReply r, now (events .exit)) ≡ run (lent (now (kinds .entry)) (now (joints .entry))) (callExpr (lent (now (kinds .entry)) (now (joints .entry))) (exprBp (inner .0) (lent (now (kinds .entry)) (now (joints .entry)))) m) state (now (events .entry)) ⌝ }
+{
+    match precede(events, state, m) {
+        Opened::Open(s1, o) => match arg_list(kinds, joints, events, s1, inner) {
+            Closed::Done(s2, _) => complete(events, s2, o, CALL_EXPR),
+            Closed::Refused(r) => Closed::Refused(r),
+        },
+        Opened::Refused(r) => Closed::Refused(r),
+    }
+}
+
+// e.g. x[1][2]
+fn index_expr(kinds: &[u8],
+    joints: &[u8],
+    events: &mut [u64],
+    state: State, m: CompletedMarker, inner: Depth) -> Closed
+    ensures { λ r. ⌜ (closedReply r, now (events .exit)) ≡ run (lent (now (kinds .entry)) (now (joints .entry))) (indexExpr (lent (now (kinds .entry)) (now (joints .entry))) (exprBp (inner .0) (lent (now (kinds .entry)) (now (joints .entry)))) m) state (now (events .entry)) ⌝ }
+{
+    match lead(kinds, joints, events, state, m, L_BRACK) {
+        Opened::Open(s1, o) => match expr_bp(kinds, joints, events, s1, TOP, inner) {
+            Reading::Expr(s2, _) => closing(kinds, joints, events, s2, R_BRACK, EXPECTED_R_BRACK, o, INDEX_EXPR),
+            Reading::NoExpr(s2) => closing(kinds, joints, events, s2, R_BRACK, EXPECTED_R_BRACK, o, INDEX_EXPR),
+            Reading::Refused(r) => Closed::Refused(r),
+        },
+        Opened::Refused(r) => Closed::Refused(r),
+    }
+}
+
+// A start before a node, and its dot unless a float's was read.
+fn dotted(kinds: &[u8],
+    joints: &[u8],
+    events: &mut [u64],
+    state: State, m: CompletedMarker, recovery: bool) -> Opened
+    ensures { λ r. ⌜ (openedReply r, now (events .exit)) ≡ run (lent (now (kinds .entry)) (now (joints .entry))) (dotted recovery m) state (now (events .entry)) ⌝ }
+{
+    if recovery {
+        return precede(events, state, m);
+    }
+    lead(kinds, joints, events, state, m, DOT)
+}
+
+// e.g. x.foo(), x.0. call()
+fn method_call_expr(kinds: &[u8],
+    joints: &[u8],
+    events: &mut [u64],
+    state: State, m: CompletedMarker, recovery: bool, inner: Depth) -> Closed
+    ensures { λ r. ⌜ (closedReply r, now (events .exit)) ≡ run (lent (now (kinds .entry)) (now (joints .entry))) (methodCallExpr (lent (now (kinds .entry)) (now (joints .entry))) (exprBp (inner .0) (lent (now (kinds .entry)) (now (joints .entry)))) recovery m) state (now (events .entry)) ⌝ }
+{
+    match method_head(kinds, joints, events, state, m, recovery) {
+        Opened::Open(s1, o) => match arg_list(kinds, joints, events, s1, inner) {
+            Closed::Done(s2, _) => complete(events, s2, o, METHOD_CALL_EXPR),
+            Closed::Refused(r) => Closed::Refused(r),
+        },
+        Opened::Refused(r) => Closed::Refused(r),
+    }
+}
+
+fn method_head(kinds: &[u8],
+    joints: &[u8],
+    events: &mut [u64],
+    state: State, m: CompletedMarker, recovery: bool) -> Opened
+    ensures { λ r. ⌜ (openedReply r, now (events .exit)) ≡ run (lent (now (kinds .entry)) (now (joints .entry))) (methodHead (lent (now (kinds .entry)) (now (joints .entry))) recovery m) state (now (events .entry)) ⌝ }
+{
+    match dotted(kinds, joints, events, state, m, recovery) {
+        Opened::Open(s1, o) => match method_name(kinds, joints, events, s1) {
+            Moved::On(s2) => Opened::Open(s2, o),
+            Moved::Refused(r) => Opened::Refused(r),
+        },
+        Opened::Refused(r) => Opened::Refused(r),
+    }
+}
+
+fn method_name(kinds: &[u8],
+    joints: &[u8],
+    events: &mut [u64],
+    state: State) -> Moved
+    ensures { λ r. ⌜ (movedReply r, now (events .exit)) ≡ run (lent (now (kinds .entry)) (now (joints .entry))) (methodName (lent (now (kinds .entry)) (now (joints .entry)))) state (now (events .entry)) ⌝ }
+{
+    let at = state.pos.0;
+    let kind = kind_at(kinds, at);
+    if kind != IDENT {
+        return error(events, state, EXPECTED_METHOD_NAME);
+    }
+    match leaf(kinds, joints, events, state, NAME_REF) {
+        Closed::Done(s1, _) => no_generics(kinds, joints, events, s1),
+        Closed::Refused(r) => Moved::Refused(r),
+    }
+}
+
+// Generic arguments are outside the cut.
+fn no_generics(kinds: &[u8],
+    joints: &[u8],
+    events: &mut [u64],
+    state: State) -> Moved
+    ensures { λ r. ⌜ (movedReply r, now (events .exit)) ≡ run (lent (now (kinds .entry)) (now (joints .entry))) (noGenerics (lent (now (kinds .entry)) (now (joints .entry)))) state (now (events .entry)) ⌝ }
+{
+    let at = state.pos.0;
+    if nth_at(kinds, joints, at, COLON2) {
+        return Moved::Refused(Refusal {
+            number: OUTSIDE_CUT,
+            place: at,
+        });
+    }
+    Moved::On(state)
+}
+
+// e.g. x.await, x.0. await
+fn await_expr(kinds: &[u8],
+    joints: &[u8],
+    events: &mut [u64],
+    state: State, m: CompletedMarker, recovery: bool) -> Closed
+    ensures { λ r. ⌜ (closedReply r, now (events .exit)) ≡ run (lent (now (kinds .entry)) (now (joints .entry))) (awaitExpr recovery m) state (now (events .entry)) ⌝ }
+{
+    match dotted(kinds, joints, events, state, m, recovery) {
+        Opened::Open(s1, o) => match bump(kinds, joints, events, s1, AWAIT_KW) {
+            Moved::On(s2) => complete(events, s2, o, AWAIT_EXPR),
+            Moved::Refused(r) => Closed::Refused(r),
+        },
+        Opened::Refused(r) => Closed::Refused(r),
+    }
+}
+
+// e.g. x.foo, x.0, x.0.1, x.0. bar
+fn field_expr(kinds: &[u8],
+    joints: &[u8],
+    events: &mut [u64],
+    state: State, m: CompletedMarker, recovery: bool) -> Postfix
+    ensures { λ r. ⌜ (postfixReply r, now (events .exit)) ≡ run (lent (now (kinds .entry)) (now (joints .entry))) (fieldExpr (lent (now (kinds .entry)) (now (joints .entry))) recovery m) state (now (events .entry)) ⌝ }
+{
+    match dotted(kinds, joints, events, state, m, recovery) {
+        Opened::Open(s1, o) => field(kinds, joints, events, s1, o),
+        Opened::Refused(r) => Postfix::Refused(r),
+    }
+}
+
+fn field(kinds: &[u8],
+    joints: &[u8],
+    events: &mut [u64],
+    state: State, m: Marker) -> Postfix
+    ensures { λ r. ⌜ (postfixReply r, now (events .exit)) ≡ run (lent (now (kinds .entry)) (now (joints .entry))) (field (lent (now (kinds .entry)) (now (joints .entry))) m) state (now (events .entry)) ⌝ }
+{
+    let at = state.pos.0;
+    let kind = kind_at(kinds, at);
+    if is_field_name(kind) {
+        return postfix_of(named_field(kinds, joints, events, state, m));
+    }
+    if kind == FLOAT_NUMBER {
+        return float_field(kinds, joints, events, state, m);
+    }
+    postfix_of(no_field(kinds, joints, events, state, m))
+}
+
+fn named_field(kinds: &[u8],
+    joints: &[u8],
+    events: &mut [u64],
+    state: State, m: Marker) -> Closed
+    ensures { λ r. ⌜ (closedReply r, now (events .exit)) ≡ run (lent (now (kinds .entry)) (now (joints .entry))) (namedField m) state (now (events .entry)) ⌝ }
+{
+    match leaf(kinds, joints, events, state, NAME_REF) {
+        Closed::Done(s1, _) => complete(events, s1, m, FIELD_EXPR),
+        Closed::Refused(r) => Closed::Refused(r),
+    }
+}
+
+fn no_field(kinds: &[u8],
+    joints: &[u8],
+    events: &mut [u64],
+    state: State, m: Marker) -> Closed
+    ensures { λ r. ⌜ (closedReply r, now (events .exit)) ≡ run (lent (now (kinds .entry)) (now (joints .entry))) (noField m) state (now (events .entry)) ⌝ }
+{
+    match error(events, state, EXPECTED_FIELD) {
+        Moved::On(s1) => complete(events, s1, m, FIELD_EXPR),
+        Moved::Refused(r) => Closed::Refused(r),
+    }
+}
+
+// A float in field place is split; one that ends in a dot has the next name's dot read already.
+fn float_field(kinds: &[u8],
+    joints: &[u8],
+    events: &mut [u64],
+    state: State, m: Marker) -> Postfix
+    ensures { λ r. ⌜ (postfixReply r, now (events .exit)) ≡ run (lent (now (kinds .entry)) (now (joints .entry))) (floatField (lent (now (kinds .entry)) (now (joints .entry))) m) state (now (events .entry)) ⌝ }
+{
+    let at = state.pos.0;
+    let joint = joint_at(joints, at);
+    match split_float(kinds, joints, events, state, m) {
+        Parted::Split(s1, c) => Postfix::Again(s1, c, joint == 0),
+        Parted::No => Postfix::Refused(Refusal {
+            number: UNFIT,
+            place: 0,
+        }),
+        Parted::Refused(r) => Postfix::Refused(r),
+    }
+}
+
+// e.g. x?
+fn try_expr(kinds: &[u8],
+    joints: &[u8],
+    events: &mut [u64],
+    state: State, m: CompletedMarker) -> Closed
+    ensures { λ r. ⌜ (closedReply r, now (events .exit)) ≡ run (lent (now (kinds .entry)) (now (joints .entry))) (tryExpr m) state (now (events .entry)) ⌝ }
+{
+    match lead(kinds, joints, events, state, m, QUESTION) {
+        Opened::Open(s1, o) => complete(events, s1, o, TRY_EXPR),
+        Opened::Refused(r) => Closed::Refused(r),
+    }
+}
+
+// e.g. (1, 2,)
+fn arg_list(kinds: &[u8],
+    joints: &[u8],
+    events: &mut [u64],
+    state: State, inner: Depth) -> Closed
+    ensures { λ r. ⌜ (closedReply r, now (events .exit)) ≡ run (lent (now (kinds .entry)) (now (joints .entry))) (argList (lent (now (kinds .entry)) (now (joints .entry))) (exprBp (inner .0) (lent (now (kinds .entry)) (now (joints .entry))))) state (now (events .entry)) ⌝ }
+{
+    match begin(kinds, joints, events, state, L_PAREN) {
+        Opened::Open(s1, m) => match arguments(kinds, joints, events, s1, inner) {
+            Moved::On(s2) => closing(kinds, joints, events, s2, R_PAREN, EXPECTED_R_PAREN, m, ARG_LIST),
+            Moved::Refused(r) => Closed::Refused(r),
+        },
+        Opened::Refused(r) => Closed::Refused(r),
+    }
+}
+
+fn arguments(kinds: &[u8],
+    joints: &[u8],
+    events: &mut [u64],
+    state: State, inner: Depth) -> Moved
+    ensures { λ r. ⌜ (movedReply r, now (events .exit)) ≡ run (lent (now (kinds .entry)) (now (joints .entry))) (arguments (lent (now (kinds .entry)) (now (joints .entry))) (exprBp (inner .0) (lent (now (kinds .entry)) (now (joints .entry))))) state (now (events .entry)) ⌝ }
+{
+    let mut s = state;
+    loop {
+        match arg(kinds, joints, events, s, inner) {
+            Args::More(s1) => s = s1,
+            Args::End(s1) => return Moved::On(s1),
+            Args::Refused(r) => return Moved::Refused(r),
+        }
+    }
+}
+
+// One argument and the comma after it, or the end.
+fn arg(kinds: &[u8],
+    joints: &[u8],
+    events: &mut [u64],
+    state: State, inner: Depth) -> Args
+    ensures { λ r. ⌜ (argsReply r, now (events .exit)) ≡ run (lent (now (kinds .entry)) (now (joints .entry))) (argument (lent (now (kinds .entry)) (now (joints .entry))) (exprBp (inner .0) (lent (now (kinds .entry)) (now (joints .entry))))) state (now (events .entry)) ⌝ }
+{
+    let at = state.pos.0;
+    let kind = kind_at(kinds, at);
+    if ends_arguments(kind) {
+        return Args::End(state);
+    }
+    if kind == COMMA {
+        return lone_comma(kinds, joints, events, state);
+    }
+    let r = expr_bp(kinds, joints, events, state, TOP, inner);
+    let Reading::Expr(s1, _) = r else {
+        return args_end(r);
+    };
+    after_argument(kinds, joints, events, s1)
+}
+
+// A comma where an expression should be.
+fn lone_comma(kinds: &[u8],
+    joints: &[u8],
+    events: &mut [u64],
+    state: State) -> Args
+    ensures { λ r. ⌜ (argsReply r, now (events .exit)) ≡ run (lent (now (kinds .entry)) (now (joints .entry))) (loneComma) state (now (events .entry)) ⌝ }
+{
+    match err_and_bump(kinds, joints, events, state) {
+        Moved::On(s1) => Args::More(s1),
+        Moved::Refused(r) => Args::Refused(r),
+    }
+}
+
+// A reading that yields no expression ends the arguments.
+fn args_end(reading: Reading) -> Args
+    ensures { λ r. ⌜ r ≡ argsEnd reading ⌝ }
+{
+    match reading {
+        Reading::Expr(s, _) => Args::End(s),
+        Reading::NoExpr(s) => Args::End(s),
+        Reading::Refused(n) => Args::Refused(n),
+    }
+}
+
+fn after_argument(kinds: &[u8],
+    joints: &[u8],
+    events: &mut [u64],
+    state: State) -> Args
+    ensures { λ r. ⌜ (argsReply r, now (events .exit)) ≡ run (lent (now (kinds .entry)) (now (joints .entry))) (afterArgument (lent (now (kinds .entry)) (now (joints .entry)))) state (now (events .entry)) ⌝ }
+{
+    match eat(kinds, joints, events, state, COMMA) {
+        Taken::Took(s1) => Args::More(s1),
+        Taken::No => no_comma(kinds, joints, events, state),
+        Taken::Refused(r) => Args::Refused(r),
+    }
+}
+
+// Before a first token the comma is missing; otherwise the arguments end.
+fn no_comma(kinds: &[u8],
+    joints: &[u8],
+    events: &mut [u64],
+    state: State) -> Args
+    ensures { λ r. ⌜ (argsReply r, now (events .exit)) ≡ run (lent (now (kinds .entry)) (now (joints .entry))) (noComma (lent (now (kinds .entry)) (now (joints .entry)))) state (now (events .entry)) ⌝ }
+{
+    let at = state.pos.0;
+    let kind = kind_at(kinds, at);
+    if !is_first(kind) {
+        return Args::End(state);
+    }
+    match error(events, state, EXPECTED_COMMA) {
+        Moved::On(s1) => Args::More(s1),
+        Moved::Refused(r) => Args::Refused(r),
+    }
+}
+
+// A literal, a path or a parenthesis.
+fn atom_expr(kinds: &[u8],
+    joints: &[u8],
+    events: &mut [u64],
+    state: State, inner: Depth) -> Reading
+    ensures { λ r. ⌜ (readingReply r, now (events .exit)) ≡ run (lent (now (kinds .entry)) (now (joints .entry))) (atomExpr (lent (now (kinds .entry)) (now (joints .entry))) (exprBp (inner .0) (lent (now (kinds .entry)) (now (joints .entry))))) state (now (events .entry)) ⌝ }
+{
+    let at = state.pos.0;
+    let kind = kind_at(kinds, at);
+    if kind == IDENT {
+        return reading_of(path_node(kinds, joints, events, state, PATH_EXPR));
+    }
+    if kind == L_PAREN {
+        return reading_of(paren_expr(kinds, joints, events, state, inner));
+    }
+    plain_atom(kinds, joints, events, state)
+}
+
+// A literal; a `.` that is no range; what the cut leaves out.
+fn plain_atom(kinds: &[u8],
+    joints: &[u8],
+    events: &mut [u64],
+    state: State) -> Reading
+    ensures { λ r. ⌜ (readingReply r, now (events .exit)) ≡ run (lent (now (kinds .entry)) (now (joints .entry))) (plainAtom (lent (now (kinds .entry)) (now (joints .entry)))) state (now (events .entry)) ⌝ }
+{
+    let at = state.pos.0;
+    let kind = kind_at(kinds, at);
+    if outside_atom(kind) {
+        return Reading::Refused(Refusal {
+            number: OUTSIDE_CUT,
+            place: at,
+        });
+    }
+    if kind == DOT {
+        return lone_dot(kinds, joints, events, state);
+    }
+    reading_of(leaf(kinds, joints, events, state, LITERAL))
+}
+
+// A `.` that is no range.
+fn lone_dot(kinds: &[u8],
+    joints: &[u8],
+    events: &mut [u64],
+    state: State) -> Reading
+    ensures { λ r. ⌜ (readingReply r, now (events .exit)) ≡ run (lent (now (kinds .entry)) (now (joints .entry))) (loneDot (lent (now (kinds .entry)) (now (joints .entry)))) state (now (events .entry)) ⌝ }
+{
+    match err_recover(kinds, joints, events, state) {
+        Moved::On(s1) => Reading::NoExpr(s1),
+        Moved::Refused(r) => Reading::Refused(r),
+    }
+}
+
+// e.g. (1 + 2)
+fn paren_expr(kinds: &[u8],
+    joints: &[u8],
+    events: &mut [u64],
+    state: State, inner: Depth) -> Closed
+    ensures { λ r. ⌜ (closedReply r, now (events .exit)) ≡ run (lent (now (kinds .entry)) (now (joints .entry))) (parenExpr (lent (now (kinds .entry)) (now (joints .entry))) (exprBp (inner .0) (lent (now (kinds .entry)) (now (joints .entry))))) state (now (events .entry)) ⌝ }
+{
+    match begin(kinds, joints, events, state, L_PAREN) {
+        Opened::Open(s1, m) => {
+            let at = s1.pos.0;
+            let kind = kind_at(kinds, at);
+            if kind == R_PAREN {
+                return Closed::Refused(Refusal {
+                    number: OUTSIDE_CUT,
+                    place: at,
+                });
+            }
+            match expr_bp(kinds, joints, events, s1, TOP, inner) {
+                Reading::Expr(s2, _) => paren_tail(kinds, joints, events, s2, m),
+                Reading::NoExpr(s2) => closing(kinds, joints, events, s2, R_PAREN, EXPECTED_R_PAREN, m, PAREN_EXPR),
+                Reading::Refused(r) => Closed::Refused(r),
+            }
+        }
+        Opened::Refused(r) => Closed::Refused(r),
+    }
+}
+
+// A tuple is outside the cut.
+fn paren_tail(kinds: &[u8],
+    joints: &[u8],
+    events: &mut [u64],
+    state: State, m: Marker) -> Closed
+    ensures { λ r. ⌜ (closedReply r, now (events .exit)) ≡ run (lent (now (kinds .entry)) (now (joints .entry))) (parenTail (lent (now (kinds .entry)) (now (joints .entry))) m) state (now (events .entry)) ⌝ }
+{
+    let at = state.pos.0;
+    let kind = kind_at(kinds, at);
+    if kind == COMMA {
+        return Closed::Refused(Refusal {
+            number: OUTSIDE_CUT,
+            place: at,
+        });
+    }
+    closing(kinds, joints, events, state, R_PAREN, EXPECTED_R_PAREN, m, PAREN_EXPR)
+}

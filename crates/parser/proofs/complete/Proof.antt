@@ -1,0 +1,21 @@
+-- `parser::complete` meets its contract: the check, and then the work or the refusal of the check. By the laws of Work along the facts of each return. Assumes nothing.
+use Rattle.parser.specs.Public.{completeCall, calling}
+use Rattle.input.specs.Input.{tokenLimit}
+use Rattle.parser.proofs.Work.{work}
+use borrow.Author.Needs.{needs}
+use Rattle.parser.proofs.complete.Statement.{statement}
+use Rattle.parser.proofs.complete.Tie as tie
+
+pub complete-spec : {M : Type 1} → statement M
+unfolding completeCall calling tokenLimit
+complete-spec =
+    tie.close
+    (tie.spec
+    (λ c κs. search needs)
+    (λ c. search needs)
+    (λ c κs. search needs)
+    (λ c. search needs)
+    (λ c. search needs)
+    (λ c. search work depth 10)
+    (λ c. search needs)
+    (λ c. search work depth 10))

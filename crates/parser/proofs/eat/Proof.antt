@@ -1,0 +1,20 @@
+-- `parser::eat` meets its contract: the check, and then the work or the refusal of the check. By the laws of Work along the facts of each return. Assumes nothing.
+use Rattle.parser.specs.Public.{eatCall, calling}
+use Rattle.parser.proofs.Work.{work}
+use borrow.Author.Needs.{needs}
+use Rattle.parser.proofs.eat.Statement.{statement}
+use Rattle.parser.proofs.eat.Tie as tie
+
+pub eat-spec : {M : Type 1} → statement M
+unfolding eatCall calling
+eat-spec =
+    tie.close
+    (tie.spec
+    (λ c κs. search needs)
+    (λ c. search needs)
+    (λ c κs. search needs)
+    (λ c. search needs)
+    (λ c. search needs)
+    (λ c. search work depth 10)
+    (λ c. search needs)
+    (λ c. search work depth 10))

@@ -1,0 +1,9 @@
+pub mod Laws
+pub mod Cases
+pub mod Bytes
+pub mod Sections
+pub mod Forms
+pub mod Encodings
+pub mod Places
+pub mod Answers
+pub mod Limit

@@ -1,0 +1,107 @@
+#!/usr/bin/env python3
+"""Runs `read` and `batch` as a user does, on standard input.
+
+usage: test_programs.py [READ BATCH]
+
+READ and BATCH are command lines; by default the programs that `rt check`
+built, under tools/run. The inputs and answers are those of cases.py.
+"""
+
+import os
+import shlex
+import subprocess
+import sys
+import unittest
+
+import cases
+import compare
+
+RUN = os.path.join(compare.ROOT, 'tools', 'run')
+READ, BATCH = [RUN, 'read'], [RUN, 'batch']
+SECONDS = 60
+
+
+def run(program, data):
+    return subprocess.run(program, input=data, stdout=subprocess.PIPE,
+                          timeout=SECONDS, check=True).stdout.decode()
+
+
+class Read(unittest.TestCase):
+    def test_cases(self):
+        """One run for each case that is not one of a great many alike."""
+        seen = {}
+        for letter, data, text in cases.cases():
+            if letter == 'r':
+                seen.setdefault((text, len(data)), data)
+        for (text, _), data in seen.items():
+            with self.subTest(data=data):
+                self.assertEqual(run(READ, data), text)
+
+    def test_reads_no_further(self):
+        """Ends by itself after a length above 256, the input still open."""
+        for data in b'\x01\x01\x01', b'\x01\x00\x00\x02\x01\x01', b'\x02\0\0':
+            with self.subTest(data=data), subprocess.Popen(
+                    READ, stdin=subprocess.PIPE,
+                    stdout=subprocess.PIPE) as process:
+                process.stdin.write(data)
+                process.stdin.flush()
+                process.wait(SECONDS)
+                wanted = (cases.refusal(10, 0) if data[0] == 2
+                          else cases.refusal(3, 0))
+                self.assertEqual(process.stdout.read().decode(), wanted)
+
+    def test_byte_by_byte(self):
+        """A form that comes in pieces is read whole."""
+        with subprocess.Popen(READ, stdin=subprocess.PIPE,
+                              stdout=subprocess.PIPE) as process:
+            for byte in cases.BANG_ONE:
+                process.stdin.write(bytes([byte]))
+                process.stdin.flush()
+            process.stdin.close()
+            self.assertEqual(process.stdout.read().decode(),
+                             cases.BANG_ONE_ANSWER)
+
+
+class Batch(unittest.TestCase):
+    def test_nothing(self):
+        self.assertEqual(run(BATCH, b''), '')
+
+    def test_one_after_the_other(self):
+        """Forms of many lengths over several fillings of the buffer."""
+        closing = [11]
+        data, text = b'', ''
+        for n in list(range(0, 400)) + [4096, 1, 4096, 0, 4095] * 8:
+            data += cases.form(closing * n, [0] * n)
+            text += (cases.answer(0, [cases.error(1)]) if n
+                     else cases.answer(0, cases.MISSING))
+            data += cases.BANG_ONE
+            text += cases.BANG_ONE_ANSWER
+        self.assertEqual(run(BATCH, data), text)
+
+    def test_refusal_goes_on(self):
+        data = cases.form([30], [0]) + cases.BANG_ONE
+        self.assertEqual(run(BATCH, data),
+                         cases.refusal(1, 0) + cases.BANG_ONE_ANSWER)
+
+    def test_broken_ends(self):
+        """The place counts from the broken form's first byte."""
+        for end in range(1, len(cases.BANG_ONE)):
+            data = cases.BANG_ONE * 3 + cases.BANG_ONE[:end]
+            self.assertEqual(run(BATCH, data), cases.BANG_ONE_ANSWER * 3
+                             + cases.refusal(10, end))
+        data = cases.BANG_ONE + b'\x07' + cases.BANG_ONE
+        self.assertEqual(run(BATCH, data),
+                         cases.BANG_ONE_ANSWER + cases.refusal(10, 0))
+
+    def test_long_ends(self):
+        data = (cases.BANG_ONE + cases.form([11] * 4097, [0] * 4097)
+                + cases.BANG_ONE)
+        self.assertEqual(run(BATCH, data),
+                         cases.BANG_ONE_ANSWER + cases.refusal(3, 0))
+
+
+if __name__ == '__main__':
+    if len(sys.argv) == 3:
+        READ, BATCH = map(shlex.split, sys.argv[1:])
+        del sys.argv[1:]
+    unittest.main()
