@@ -1,0 +1,11 @@
+pub mod Does
+pub mod Calls
+pub mod Present
+pub mod Atoms
+pub mod Postfix
+pub mod Reading
+pub mod Beyond
+pub mod Checks
+pub mod Runs
+pub mod Ends
+pub mod Theorems
