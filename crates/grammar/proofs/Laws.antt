@@ -295,14 +295,14 @@ module _ {A : Type 0} {out : Ran A} (ts : Tokens) (s : State) (ev : List ℕ) (p
 -- the other side of `let .. else` where the marker is abandoned, and where the arguments end
 module _ (ts : Tokens) (s : State) (ev : List ℕ) (p : Rule) {e : List ℕ} where
   pub extended-other : {out : Ran (Perhaps CompletedMarker)} (o : Marker) (x : Reading) → (readingReply x, e) ≡ run ts p s ev → OneOf (1 ∷ 2 ∷ []) (tagOf the-type x) → out ≡ missingOf ts x o e
-    → out ≡ run ts (extendTo p o) s ev
+      → out ≡ run ts (extendTo p o) s ev
   unfolding missingOf readingReply extendTo
   extended-other o (reading.Expr s1 m) r q h = ⊎-elim (λ z. absurd (eqb-false 0 1 refl z)) (λ z. absurd (eqb-false 0 2 refl z)) q
   extended-other o (reading.NoExpr s1) r q h = then-fine ts s ev p _ r refl h
   extended-other o (reading.Refused n) r q h = then-bad ts s ev p _ r refl h
 
   pub extended-expr : (o : Marker) {x : Reading} {s1 : State} {m : CompletedMarker} {y : Closed} {z : Reading} {e1 : List ℕ} → (readingReply x, e) ≡ run ts p s ev → x ≡ reading.Expr s1 m → (y, e1) ≡ extendOf s1 m o e → z ≡ readingOf y
-    → (readingReply z, e1) ≡ run ts (extendTo p o) s ev
+      → (readingReply z, e1) ≡ run ts (extendTo p o) s ev
   unfolding readingReply readingOf onClosed run extendTo
   extended-expr o {s1 = s1} {m} {y} {z} {e1} r q w v = then-fine ts s ev p _ r (reading-expr q) (ap (λ u. (readingReply u, e1)) v ∙ ap (λ u. (readingReply (readingOf (u .0)), u .1)) w ∙ go (extendOf s1 m o e .0) (extendOf s1 m o e .1))
     where
@@ -311,7 +311,7 @@ module _ (ts : Tokens) (s : State) (ev : List ℕ) (p : Rule) {e : List ℕ} whe
       go (closed.Refused r) e = refl
 
   pub argument-other : (x : Reading) {y : Args} → (readingReply x, e) ≡ run ts p s ev → OneOf (1 ∷ 2 ∷ []) (tagOf the-type x) → y ≡ argsEnd x
-    → (argsReply y, e) ≡ run ts (then p (elim [ some m ↦ afterArgument ts | none ↦ give (done tt) ])) s ev
+      → (argsReply y, e) ≡ run ts (then p (elim [ some m ↦ afterArgument ts | none ↦ give (done tt) ])) s ev
   unfolding argsReply argsEnd readingReply run
   argument-other x r q v = ap (λ u. (argsReply u, e)) v ∙ go x r q
     where
@@ -334,7 +334,7 @@ unfolding exprBp run readingReply
 depth-none ts b s ev h = ap (λ d. run ts (exprBp d ts b) s ev) (sym h)
 
 pub depth-some : (depth : ℕ) (ts : Tokens) (b : ℕ) (s : State) (ev : List ℕ) {out : Ran (Perhaps CompletedMarker)} → (depth ≡ 0 → ⊥)
-  → out ≡ run ts (start λ o. look λ at. bound (kindAt ts at) λ kind. whether (isFirst kind) (λ _. expression ts (exprBp (depth - 1) ts) b o) (λ _. noExpression ts o)) s ev → out ≡ run ts (exprBp depth ts b) s ev
+    → out ≡ run ts (start λ o. look λ at. bound (kindAt ts at) λ kind. whether (isFirst kind) (λ _. expression ts (exprBp (depth - 1) ts) b o) (λ _. noExpression ts o)) s ev → out ≡ run ts (exprBp depth ts b) s ev
 unfolding exprBp
 depth-some zero ts b s ev h p = absurd (h refl)
 depth-some (suc d) ts b s ev {out} h p = subst (λ j. out ≡ run ts (start λ o. look λ at. bound (kindAt ts at) λ kind. whether (isFirst kind) (λ _. expression ts (exprBp j ts) b o) (λ _. noExpression ts o)) s ev) (sub-one (suc d)) p

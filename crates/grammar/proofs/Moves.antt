@@ -215,9 +215,9 @@ takes-a-token zero ts b s ev = tt
 takes-a-token (suc d) ts b s ev =
     opened-by (Takes ts (s .pos .0)) (Stays s ev) (λ e. e ≡ ev) (startOf s ev) _ _ (start-moves ts s ev)
     (λ s1 o e h. bound-by (λ (p : Rule). Takes ts (s .pos .0) (run ts p s1 e)) _ _
-      (whether-by (λ (p : Rule). Takes ts (s .pos .0) (run ts p s1 e)) _ _ _
-      (λ _. expression-takes ts (s .pos .0) (exprBp d ts) s1 e (omega arith) b o)
-      (λ _. no-expression-takes ts (s .pos .0) (exprBp d ts) s1 e (omega arith) o)))
+    (whether-by (λ (p : Rule). Takes ts (s .pos .0) (run ts p s1 e)) _ _ _
+    (λ _. expression-takes ts (s .pos .0) (exprBp d ts) s1 e (omega arith) b o)
+    (λ _. no-expression-takes ts (s .pos .0) (exprBp d ts) s1 e (omega arith) o)))
     (λ _ _ _. tt)
 
 -- a turn that goes on stands beyond q
@@ -273,9 +273,9 @@ unfolding pathTurn run
 path-goes ts m s ev =
     whether-by (λ (p : Turning). Turns ts (s .pos .0) (run ts p s ev)) _ _ _
     (λ _. bound-by (λ (p : Turning). Turns ts (s .pos .0) (run ts p s ev)) _ _
-      (whether-by (λ (p : Turning). Turns ts (s .pos .0) (run ts p s ev)) _ _ _
-      (λ _. turning-goes ts (s .pos .0) (qualified m) s ev (qualified-beyond ts (s .pos .0) m s ev (le-refl _)))
-      (λ _. tt)))
+    (whether-by (λ (p : Turning). Turns ts (s .pos .0) (run ts p s ev)) _ _ _
+    (λ _. turning-goes ts (s .pos .0) (qualified m) s ev (qualified-beyond ts (s .pos .0) m s ev (le-refl _)))
+    (λ _. tt)))
     (λ _. tt)
 
 operator-goes : (ts : Tokens) (read : ℕ → Rule) (b : ℕ) (m : CompletedMarker) (s : State) (ev : List ℕ) → Turns ts (s .pos .0) (run ts (operatorTurn ts read b m) s ev)
@@ -284,8 +284,8 @@ operator-goes ts read b m s ev =
     whether-by (λ (p : Turning). Turns ts (s .pos .0) (run ts p s ev)) _ _ _ (λ _. tt)
     (λ _. whether-by (λ (p : Turning). Turns ts (s .pos .0) (run ts p s ev)) _ _ _ (λ _. turning-goes ts (s .pos .0) (castExpr ts m) s ev (cast-beyond ts (s .pos .0) m s ev (le-refl _)))
     (λ _. whether-by (λ (p : Turning). Turns ts (s .pos .0) (run ts p s ev)) _ _ _
-      (λ _. going ts (s .pos .0) (rangeExpr ts read (currentOp ts (s .pos .0)) m) s ev (range-beyond ts (s .pos .0) read (currentOp ts (s .pos .0)) m s ev (le-refl _)))
-      (λ _. turning-goes ts (s .pos .0) (binExpr ts read (currentOp ts (s .pos .0)) m) s ev (bin-beyond ts (s .pos .0) read (currentOp ts (s .pos .0)) m s ev (le-refl _)))))
+    (λ _. going ts (s .pos .0) (rangeExpr ts read (currentOp ts (s .pos .0)) m) s ev (range-beyond ts (s .pos .0) read (currentOp ts (s .pos .0)) m s ev (le-refl _)))
+    (λ _. turning-goes ts (s .pos .0) (binExpr ts read (currentOp ts (s .pos .0)) m) s ev (bin-beyond ts (s .pos .0) read (currentOp ts (s .pos .0)) m s ev (le-refl _)))))
 
 -- at a token of the list, one can be taken
 abbrev TakenIn : Tokens → State → List ℕ → Taken × List ℕ → Type 0
@@ -335,8 +335,8 @@ argument-goes ts depth s ev =
     bound-by (λ (p : ArgTurn). Turns {S = Unit {0}} {A = Unit {0}} ts (s .pos .0) (run ts p s ev)) _ _
     (whether-by (λ (p : ArgTurn). Turns {S = Unit {0}} {A = Unit {0}} ts (s .pos .0) (run ts p s ev)) _ _ _ (λ _. tt)
     (λ _. whether-by (λ (p : ArgTurn). Turns {S = Unit {0}} {A = Unit {0}} ts (s .pos .0) (run ts p s ev)) _ _ _
-      (λ k. lone-comma-goes ts s ev (err-and-bump-beyond ts s ev (kind-inside ts (s .pos .0) (λ z. let c : kindAt ts (s .pos .0) ≡ COMMA = eqb-true _ _ k in omega arith))))
-      (λ _. then-by (Turns {S = Unit {0}} {A = Unit {0}} ts (s .pos .0)) (λ s1 a _. Found ts (s .pos .0) s1 a) (λ _ _. Unit {0}) ts (exprBp depth ts 1) _ s ev (takes-a-token depth ts 1 s ev) (λ s1 a e g. go a s1 e g) (λ _ _ _. tt))))
+    (λ k. lone-comma-goes ts s ev (err-and-bump-beyond ts s ev (kind-inside ts (s .pos .0) (λ z. let c : kindAt ts (s .pos .0) ≡ COMMA = eqb-true _ _ k in omega arith))))
+    (λ _. then-by (Turns {S = Unit {0}} {A = Unit {0}} ts (s .pos .0)) (λ s1 a _. Found ts (s .pos .0) s1 a) (λ _ _. Unit {0}) ts (exprBp depth ts 1) _ s ev (takes-a-token depth ts 1 s ev) (λ s1 a e g. go a s1 e g) (λ _ _ _. tt))))
   where
     go : (a : Perhaps CompletedMarker) (s1 : State) (e : List ℕ) → Found ts (s .pos .0) s1 a → Turns {S = Unit {0}} {A = Unit {0}} ts (s .pos .0) (run ts (elim a as (λ _. ArgTurn) [ some m ↦ afterArgument ts | none ↦ give (done tt) ]) s1 e)
     go (some m) s1 e h = going ts (s .pos .0) (afterArgument ts) s1 e (beyond-on ts (s .pos .0) (afterArgument ts) s1 e h)
@@ -378,15 +378,15 @@ module _ (ts : Tokens) (s : State) where
   float-beyond : (o : Marker) (s1 : State) (ev : List ℕ) → s .pos .0 ≤ s1 .pos .0 → Beyond ts (s .pos .0) (run ts (floatField ts o) s1 ev)
   unfolding floatField run
   float-beyond o s1 ev l =
-    bound-by (λ (p : Turned). Beyond ts (s .pos .0) (run ts p s1 ev)) _ _
-    (parted-by (Beyond ts (s .pos .0)) (Goes ts s1 ev) (λ e. e ≡ ev) (splitOf ts s1 o ev) _ _ _ (split-moves ts s1 o ev) (λ s2 m e h. (omega arith, omega arith)) (λ _ _. tt) (λ _ _ _. tt))
+      bound-by (λ (p : Turned). Beyond ts (s .pos .0) (run ts p s1 ev)) _ _
+      (parted-by (Beyond ts (s .pos .0)) (Goes ts s1 ev) (λ e. e ≡ ev) (splitOf ts s1 o ev) _ _ _ (split-moves ts s1 o ev) (λ s2 m e h. (omega arith, omega arith)) (λ _ _. tt) (λ _ _ _. tt))
 
   field-fewer : (o : Marker) (s1 : State) (ev : List ℕ) → s .pos .0 ≤ s1 .pos .0 → Fewers ts (left ts s true) (run ts (field ts o) s1 ev)
   unfolding field run
   field-fewer o s1 ev l =
-    bound-by (λ (p : Turned). Fewers ts (left ts s true) (run ts p s1 ev)) _ _
-    (whether-by (λ (p : Turned). Fewers ts (left ts s true) (run ts p s1 ev)) _ _ _ (λ _. onward-fewer (namedField o) s1 ev l)
-    (λ _. whether-by (λ (p : Turned). Fewers ts (left ts s true) (run ts p s1 ev)) _ _ _ (λ _. fewer (left ts s true) (omega arith) (floatField ts o) s1 ev (float-beyond o s1 ev l)) (λ _. onward-fewer (noField o) s1 ev l)))
+      bound-by (λ (p : Turned). Fewers ts (left ts s true) (run ts p s1 ev)) _ _
+      (whether-by (λ (p : Turned). Fewers ts (left ts s true) (run ts p s1 ev)) _ _ _ (λ _. onward-fewer (namedField o) s1 ev l)
+      (λ _. whether-by (λ (p : Turned). Fewers ts (left ts s true) (run ts p s1 ev)) _ _ _ (λ _. fewer (left ts s true) (omega arith) (floatField ts o) s1 ev (float-beyond o s1 ev l)) (λ _. onward-fewer (noField o) s1 ev l)))
 
   module _ (read : ℕ → Rule) (m : CompletedMarker) (ev : List ℕ) where
     abbrev Less : Bool → Turned → Type 0
@@ -398,8 +398,8 @@ module _ (ts : Tokens) (s : State) where
         bound-by (Less recovery) _ _
         (whether-by (Less recovery) _ _ _ (λ _. fewer (left ts s recovery) (omega arith) (onward (methodCallExpr ts read recovery m)) s ev (onward-beyond ts (s .pos .0) (methodCallExpr ts read recovery m) s ev (method-beyond ts (s .pos .0) read recovery m s ev (le-refl _))))
         (λ _. bound-by (Less recovery) _ _
-          (whether-by (Less recovery) _ _ _ (λ _. fewer (left ts s recovery) (omega arith) (onward (awaitExpr recovery m)) s ev (onward-beyond ts (s .pos .0) (awaitExpr recovery m) s ev (await-beyond ts (s .pos .0) recovery m s ev (le-refl _))))
-          (λ _. whether-by (Less recovery) _ _ _ (λ _. tt) (λ _. h)))))
+        (whether-by (Less recovery) _ _ _ (λ _. fewer (left ts s recovery) (omega arith) (onward (awaitExpr recovery m)) s ev (onward-beyond ts (s .pos .0) (awaitExpr recovery m) s ev (await-beyond ts (s .pos .0) recovery m s ev (le-refl _))))
+        (λ _. whether-by (Less recovery) _ _ _ (λ _. tt) (λ _. h)))))
 
     field-true : Less true (fieldExpr ts true m)
     unfolding fieldExpr
@@ -418,10 +418,10 @@ module _ (ts : Tokens) (s : State) where
         whether-by (Less b) _ _ _
         (λ y. absurd (false≢true (sym z ∙ y)))
         (λ _. bound-by (Less b) _ _
-          (whether-by (Less b) _ _ _ (λ _. fewer (left ts s b) (omega arith) (onward (callExpr ts read m)) s ev (onward-beyond ts (s .pos .0) (callExpr ts read m) s ev (call-beyond ts (s .pos .0) read m s ev (le-refl _))))
-          (λ _. whether-by (Less b) _ _ _ (λ _. fewer (left ts s b) (omega arith) (onward (indexExpr ts read m)) s ev (onward-beyond ts (s .pos .0) (indexExpr ts read m) s ev (index-beyond ts (s .pos .0) read m s ev (le-refl _))))
-          (λ _. whether-by (Less b) _ _ _ (λ _. subst (λ (c : Bool). Less c (postfixDotExpr ts read false m)) (sym z) (dot-fewer false field-false))
-          (λ _. whether-by (Less b) _ _ _ (λ _. fewer (left ts s b) (omega arith) (onward (tryExpr m)) s ev (onward-beyond ts (s .pos .0) (tryExpr m) s ev (try-beyond ts (s .pos .0) m s ev (le-refl _)))) (λ _. tt))))))
+        (whether-by (Less b) _ _ _ (λ _. fewer (left ts s b) (omega arith) (onward (callExpr ts read m)) s ev (onward-beyond ts (s .pos .0) (callExpr ts read m) s ev (call-beyond ts (s .pos .0) read m s ev (le-refl _))))
+        (λ _. whether-by (Less b) _ _ _ (λ _. fewer (left ts s b) (omega arith) (onward (indexExpr ts read m)) s ev (onward-beyond ts (s .pos .0) (indexExpr ts read m) s ev (index-beyond ts (s .pos .0) read m s ev (le-refl _))))
+        (λ _. whether-by (Less b) _ _ _ (λ _. subst (λ (c : Bool). Less c (postfixDotExpr ts read false m)) (sym z) (dot-fewer false field-false))
+        (λ _. whether-by (Less b) _ _ _ (λ _. fewer (left ts s b) (omega arith) (onward (tryExpr m)) s ev (onward-beyond ts (s .pos .0) (tryExpr m) s ev (try-beyond ts (s .pos .0) m s ev (le-refl _)))) (λ _. tt))))))
 
     postfix-goes : (recovery : Bool) → Less recovery (postfixTurn ts read (m, recovery))
     postfix-goes true = dot-true

@@ -4,19 +4,31 @@ ghost use Rattle.input.specs.Input.{lent};
 ghost use Rattle.parser.specs.Prog.{run};
 ghost use Rattle.grammar.specs.Views.{openedReply, closedReply, movedReply, endedOf, readingOf, turnOf, postfixOf};
 ghost use Rattle.grammar.specs.Atom.{bump, begin, lead, expect, closing, leaf, beginError, errAndBump, errRecover};
-use crate::{Postfix, Reading, Turn};
+use crate::Postfix;
+use crate::Reading;
+use crate::Turn;
 use crate::token_set::is_closing;
 use event::State;
-use input::{Refusal, kind_at};
-use input::syntax_kind::{ERROR, EXPECTED_EXPRESSION, UNFIT};
-use parser::{Closed, CompletedMarker, Marker, Moved, Opened, Taken};
-use parser::inner::{bump_any, complete, eat, error, precede, start};
+use input::Refusal;
+use input::kind_at;
+use input::syntax_kind::ERROR;
+use input::syntax_kind::EXPECTED_EXPRESSION;
+use input::syntax_kind::UNFIT;
+use parser::Closed;
+use parser::CompletedMarker;
+use parser::Marker;
+use parser::Moved;
+use parser::Opened;
+use parser::Taken;
+use parser::inner::bump_any;
+use parser::inner::complete;
+use parser::inner::eat;
+use parser::inner::error;
+use parser::inner::precede;
+use parser::inner::start;
 
 // Takes a kind that is at hand.
-pub fn bump(kinds: &[u8],
-    joints: &[u8],
-    events: &mut [u64],
-    state: State, kind: u8) -> Moved
+pub fn bump(kinds: &[u8], joints: &[u8], events: &mut [u64], state: State, kind: u8) -> Moved
     ensures { λ r. ⌜ (movedReply r, now (events .exit)) ≡ run (lent (now (kinds .entry)) (now (joints .entry))) (bump kind) state (now (events .entry)) ⌝ }
 {
     match eat(kinds, joints, events, state, kind) {
@@ -30,10 +42,7 @@ pub fn bump(kinds: &[u8],
 }
 
 // A start and the kind at hand.
-pub fn begin(kinds: &[u8],
-    joints: &[u8],
-    events: &mut [u64],
-    state: State, kind: u8) -> Opened
+pub fn begin(kinds: &[u8], joints: &[u8], events: &mut [u64], state: State, kind: u8) -> Opened
     ensures { λ r. ⌜ (openedReply r, now (events .exit)) ≡ run (lent (now (kinds .entry)) (now (joints .entry))) (begin kind) state (now (events .entry)) ⌝ }
 {
     match start(events, state) {
@@ -46,10 +55,14 @@ pub fn begin(kinds: &[u8],
 }
 
 // A start before a closed node, and the kind at hand.
-pub fn lead(kinds: &[u8],
+pub fn lead(
+    kinds: &[u8],
     joints: &[u8],
     events: &mut [u64],
-    state: State, m: CompletedMarker, kind: u8) -> Opened
+    state: State,
+    m: CompletedMarker,
+    kind: u8,
+) -> Opened
     ensures { λ r. ⌜ (openedReply r, now (events .exit)) ≡ run (lent (now (kinds .entry)) (now (joints .entry))) (lead m kind) state (now (events .entry)) ⌝ }
 {
     match precede(events, state, m) {
@@ -62,10 +75,14 @@ pub fn lead(kinds: &[u8],
 }
 
 // Takes a kind, or gives an error where it is missing.
-pub fn expect(kinds: &[u8],
+pub fn expect(
+    kinds: &[u8],
     joints: &[u8],
     events: &mut [u64],
-    state: State, kind: u8, code: u8) -> Moved
+    state: State,
+    kind: u8,
+    code: u8,
+) -> Moved
     ensures { λ r. ⌜ (movedReply r, now (events .exit)) ≡ run (lent (now (kinds .entry)) (now (joints .entry))) (expect kind code) state (now (events .entry)) ⌝ }
 {
     match eat(kinds, joints, events, state, kind) {
@@ -76,10 +93,16 @@ pub fn expect(kinds: &[u8],
 }
 
 // An expected kind, and the node's end.
-pub fn closing(kinds: &[u8],
+pub fn closing(
+    kinds: &[u8],
     joints: &[u8],
     events: &mut [u64],
-    state: State, kind: u8, code: u8, m: Marker, node: u8) -> Closed
+    state: State,
+    kind: u8,
+    code: u8,
+    m: Marker,
+    node: u8,
+) -> Closed
     ensures { λ r. ⌜ (closedReply r, now (events .exit)) ≡ run (lent (now (kinds .entry)) (now (joints .entry))) (closing kind code m node) state (now (events .entry)) ⌝ }
 {
     match expect(kinds, joints, events, state, kind, code) {
@@ -89,10 +112,7 @@ pub fn closing(kinds: &[u8],
 }
 
 // One token as a node. e.g. 92
-pub fn leaf(kinds: &[u8],
-    joints: &[u8],
-    events: &mut [u64],
-    state: State, node: u8) -> Closed
+pub fn leaf(kinds: &[u8], joints: &[u8], events: &mut [u64], state: State, node: u8) -> Closed
     ensures { λ r. ⌜ (closedReply r, now (events .exit)) ≡ run (lent (now (kinds .entry)) (now (joints .entry))) (leaf node) state (now (events .entry)) ⌝ }
 {
     match start(events, state) {
@@ -108,10 +128,7 @@ pub fn leaf(kinds: &[u8],
     }
 }
 
-fn begin_error(kinds: &[u8],
-    joints: &[u8],
-    events: &mut [u64],
-    state: State) -> Opened
+fn begin_error(kinds: &[u8], joints: &[u8], events: &mut [u64], state: State) -> Opened
     ensures { λ r. ⌜ (openedReply r, now (events .exit)) ≡ run (lent (now (kinds .entry)) (now (joints .entry))) (beginError) state (now (events .entry)) ⌝ }
 {
     match start(events, state) {
@@ -124,10 +141,7 @@ fn begin_error(kinds: &[u8],
 }
 
 // An ERROR node with the error and one token, none at the end.
-pub fn err_and_bump(kinds: &[u8],
-    joints: &[u8],
-    events: &mut [u64],
-    state: State) -> Moved
+pub fn err_and_bump(kinds: &[u8], joints: &[u8], events: &mut [u64], state: State) -> Moved
     ensures { λ r. ⌜ (movedReply r, now (events .exit)) ≡ run (lent (now (kinds .entry)) (now (joints .entry))) (errAndBump) state (now (events .entry)) ⌝ }
 {
     match begin_error(kinds, joints, events, state) {
@@ -141,10 +155,7 @@ pub fn err_and_bump(kinds: &[u8],
 }
 
 // Error 1: alone at `)` and `]`, otherwise with a token.
-pub fn err_recover(kinds: &[u8],
-    joints: &[u8],
-    events: &mut [u64],
-    state: State) -> Moved
+pub fn err_recover(kinds: &[u8], joints: &[u8], events: &mut [u64], state: State) -> Moved
     ensures { λ r. ⌜ (movedReply r, now (events .exit)) ≡ run (lent (now (kinds .entry)) (now (joints .entry))) (errRecover (lent (now (kinds .entry)) (now (joints .entry)))) state (now (events .entry)) ⌝ }
 {
     let at = state.pos.0;

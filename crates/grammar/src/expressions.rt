@@ -5,28 +5,109 @@ ghost use Rattle.input.specs.Input.{lent};
 ghost use Rattle.parser.specs.Prog.{run};
 ghost use Rattle.grammar.specs.Views.{openedReply, closedReply, movedReply, readingReply, turnReply, postfixReply, argsReply, argsEnd, missingOf, lastOf};
 ghost use Rattle.grammar.specs.Expressions.{afterArgument, argument, arguments, argList, callExpr, indexExpr, tryExpr, dotted, awaitExpr, noGenerics, methodName, methodHead, floatField, namedField, noField, field, fieldExpr, beginRef, parenTail, isMethod, isDots, nameAt, methodCallExpr, postfixDotExpr, postfixTurn, postfixExpr, parenExpr, atomExpr, refExpr, prefixExpr, leadingRange, lhs, binExpr, rangeExpr, operatorTurn, operators, extended, expression, noExpression, exprBp, plainAtom, givenUp, loneComma, loneDot, noComma, atomPostfix};
-use crate::{Args, Op, Postfix, Reading, Turn};
-use crate::atom::{begin, bump, closing, err_and_bump, err_recover, lead, leaf, postfix_of, reading_of, turn_of};
-use crate::operator::{current_op, is_range, operand_follows, right_of};
+use crate::Args;
+use crate::Op;
+use crate::Postfix;
+use crate::Reading;
+use crate::Turn;
+use crate::atom::begin;
+use crate::atom::bump;
+use crate::atom::closing;
+use crate::atom::err_and_bump;
+use crate::atom::err_recover;
+use crate::atom::lead;
+use crate::atom::leaf;
+use crate::atom::postfix_of;
+use crate::atom::reading_of;
+use crate::atom::turn_of;
+use crate::operator::current_op;
+use crate::operator::is_range;
+use crate::operator::operand_follows;
+use crate::operator::right_of;
 use crate::paths::path_node;
-use crate::token_set::{ends_arguments, is_field_name, is_first, is_prefix, outside_atom};
+use crate::token_set::ends_arguments;
+use crate::token_set::is_field_name;
+use crate::token_set::is_first;
+use crate::token_set::is_prefix;
+use crate::token_set::outside_atom;
 use crate::types::cast_expr;
 use event::State;
-use input::{Depth, Refusal, joint_at, kind_at, nth_at};
-use input::syntax_kind::{AMP, ARG_LIST, AS_KW, AWAIT_EXPR, AWAIT_KW, BIN_EXPR, CALL_EXPR, COLON2, COMMA, DOT, DOT2, DOT2EQ, EXPECTED_COMMA, EXPECTED_FIELD, EXPECTED_METHOD_NAME, EXPECTED_R_BRACK, EXPECTED_R_PAREN, FIELD_EXPR, FLOAT_NUMBER, IDENT, INDEX_EXPR, L_BRACK, L_PAREN, LITERAL, METHOD_CALL_EXPR, MUT_KW, NAME_REF, OUTSIDE_CUT, PAREN_EXPR, PATH_EXPR, PREFIX_EXPR, QUESTION, R_BRACK, R_PAREN, RANGE_EXPR, REF_EXPR, TOO_DEEP, TRY_EXPR, UNFIT};
-use parser::{Closed, CompletedMarker, Marker, Moved, Opened, Parted, Taken};
-use parser::inner::{abandon, complete, eat, error, extend_to, precede, split_float, start};
+use input::Depth;
+use input::Refusal;
+use input::joint_at;
+use input::kind_at;
+use input::nth_at;
+use input::syntax_kind::AMP;
+use input::syntax_kind::ARG_LIST;
+use input::syntax_kind::AS_KW;
+use input::syntax_kind::AWAIT_EXPR;
+use input::syntax_kind::AWAIT_KW;
+use input::syntax_kind::BIN_EXPR;
+use input::syntax_kind::CALL_EXPR;
+use input::syntax_kind::COLON2;
+use input::syntax_kind::COMMA;
+use input::syntax_kind::DOT;
+use input::syntax_kind::DOT2;
+use input::syntax_kind::DOT2EQ;
+use input::syntax_kind::EXPECTED_COMMA;
+use input::syntax_kind::EXPECTED_FIELD;
+use input::syntax_kind::EXPECTED_METHOD_NAME;
+use input::syntax_kind::EXPECTED_R_BRACK;
+use input::syntax_kind::EXPECTED_R_PAREN;
+use input::syntax_kind::FIELD_EXPR;
+use input::syntax_kind::FLOAT_NUMBER;
+use input::syntax_kind::IDENT;
+use input::syntax_kind::INDEX_EXPR;
+use input::syntax_kind::L_BRACK;
+use input::syntax_kind::L_PAREN;
+use input::syntax_kind::LITERAL;
+use input::syntax_kind::METHOD_CALL_EXPR;
+use input::syntax_kind::MUT_KW;
+use input::syntax_kind::NAME_REF;
+use input::syntax_kind::OUTSIDE_CUT;
+use input::syntax_kind::PAREN_EXPR;
+use input::syntax_kind::PATH_EXPR;
+use input::syntax_kind::PREFIX_EXPR;
+use input::syntax_kind::QUESTION;
+use input::syntax_kind::R_BRACK;
+use input::syntax_kind::R_PAREN;
+use input::syntax_kind::RANGE_EXPR;
+use input::syntax_kind::REF_EXPR;
+use input::syntax_kind::TOO_DEEP;
+use input::syntax_kind::TRY_EXPR;
+use input::syntax_kind::UNFIT;
+use parser::Closed;
+use parser::CompletedMarker;
+use parser::Marker;
+use parser::Moved;
+use parser::Opened;
+use parser::Parted;
+use parser::Taken;
+use parser::inner::abandon;
+use parser::inner::complete;
+use parser::inner::eat;
+use parser::inner::error;
+use parser::inner::extend_to;
+use parser::inner::precede;
+use parser::inner::split_float;
+use parser::inner::start;
 
 // The strength of the whole, of the operand of a leading range, and of a prefix operand.
 const TOP: u16 = 1;
-const RANGE: u16 = 2;
+
+const RANGE_OPERAND: u16 = 2;
+
 const OPERAND: u16 = 255;
 
 // Reads an expression whose operators have at least strength b. e.g. 1 + 2 * 3
-pub fn expr_bp(kinds: &[u8],
+pub fn expr_bp(
+    kinds: &[u8],
     joints: &[u8],
     events: &mut [u64],
-    state: State, b: u16, depth: Depth) -> Reading
+    state: State,
+    b: u16,
+    depth: Depth,
+) -> Reading
     ensures { λ r. ⌜ (readingReply r, now (events .exit)) ≡ run (lent (now (kinds .entry)) (now (joints .entry))) (exprBp (depth .0) (lent (now (kinds .entry)) (now (joints .entry))) b) state (now (events .entry)) ⌝ }
 {
     let left = depth.0;
@@ -42,7 +123,7 @@ pub fn expr_bp(kinds: &[u8],
             let at = s1.pos.0;
             let kind = kind_at(kinds, at);
             if is_first(kind) {
-                return expression(kinds, joints, events, s1, m, b, inner);
+                return expr(kinds, joints, events, s1, m, b, inner);
             }
             no_expression(kinds, joints, events, s1, m)
         }
@@ -51,24 +132,32 @@ pub fn expr_bp(kinds: &[u8],
 }
 
 // The left part and the operators that follow it.
-fn expression(kinds: &[u8],
+fn expr(
+    kinds: &[u8],
     joints: &[u8],
     events: &mut [u64],
-    state: State, m: Marker, b: u16, inner: Depth) -> Reading
+    state: State,
+    m: Marker,
+    b: u16,
+    inner: Depth,
+) -> Reading
     ensures { λ r. ⌜ (readingReply r, now (events .exit)) ≡ run (lent (now (kinds .entry)) (now (joints .entry))) (expression (lent (now (kinds .entry)) (now (joints .entry))) (exprBp (inner .0) (lent (now (kinds .entry)) (now (joints .entry)))) b m) state (now (events .entry)) ⌝ }
 {
-    let r = extended(kinds, joints, events, state, m, inner);
+    let r = begun(kinds, joints, events, state, m, inner);
     let Reading::Expr(s1, lhs) = r else {
         return r;
     };
-    reading_of(operators(kinds, joints, events, s1, lhs, b, inner))
+    reading_of(ops(kinds, joints, events, s1, lhs, b, inner))
 }
 
 // Error 1 instead of an expression.
-fn no_expression(kinds: &[u8],
+fn no_expression(
+    kinds: &[u8],
     joints: &[u8],
     events: &mut [u64],
-    state: State, m: Marker) -> Reading
+    state: State,
+    m: Marker,
+) -> Reading
     ensures { λ r. ⌜ (readingReply r, now (events .exit)) ≡ run (lent (now (kinds .entry)) (now (joints .entry))) (noExpression (lent (now (kinds .entry)) (now (joints .entry))) m) state (now (events .entry)) ⌝ }
 {
     match err_recover(kinds, joints, events, state) {
@@ -78,10 +167,7 @@ fn no_expression(kinds: &[u8],
 }
 
 // The marker of a reading that yields no expression.
-fn given_up(kinds: &[u8],
-    joints: &[u8],
-    events: &mut [u64],
-    state: State, m: Marker) -> Reading
+fn given_up(kinds: &[u8], joints: &[u8], events: &mut [u64], state: State, m: Marker) -> Reading
     ensures { λ r. ⌜ (readingReply r, now (events .exit)) ≡ run (lent (now (kinds .entry)) (now (joints .entry))) (givenUp m) state (now (events .entry)) ⌝ }
 {
     match abandon(events, state, m) {
@@ -102,10 +188,14 @@ fn missing(kinds: &[u8], joints: &[u8], events: &mut [u64], r: Reading, m: Marke
 }
 
 // The left part, extended to the reading's marker.
-fn extended(kinds: &[u8],
+fn begun(
+    kinds: &[u8],
     joints: &[u8],
     events: &mut [u64],
-    state: State, m: Marker, inner: Depth) -> Reading
+    state: State,
+    m: Marker,
+    inner: Depth,
+) -> Reading
     ensures { λ r. ⌜ (readingReply r, now (events .exit)) ≡ run (lent (now (kinds .entry)) (now (joints .entry))) (extended (lent (now (kinds .entry)) (now (joints .entry))) (exprBp (inner .0) (lent (now (kinds .entry)) (now (joints .entry)))) m) state (now (events .entry)) ⌝ }
 {
     let r = lhs(kinds, joints, events, state, inner);
@@ -116,16 +206,21 @@ fn extended(kinds: &[u8],
 }
 
 // The operators of at least strength b that follow an expression.
-fn operators(kinds: &[u8],
+fn ops(
+    kinds: &[u8],
     joints: &[u8],
     events: &mut [u64],
-    state: State, first: CompletedMarker, b: u16, inner: Depth) -> Closed
+    state: State,
+    first: CompletedMarker,
+    b: u16,
+    inner: Depth,
+) -> Closed
     ensures { λ r. ⌜ (closedReply r, now (events .exit)) ≡ run (lent (now (kinds .entry)) (now (joints .entry))) (operators (lent (now (kinds .entry)) (now (joints .entry))) (exprBp (inner .0) (lent (now (kinds .entry)) (now (joints .entry)))) b first) state (now (events .entry)) ⌝ }
 {
     let mut s = state;
     let mut m = first;
     loop {
-        match operator_turn(kinds, joints, events, s, m, b, inner) {
+        match oper(kinds, joints, events, s, m, b, inner) {
             Turn::Again(s1, m1) => {
                 s = s1;
                 m = m1;
@@ -137,10 +232,15 @@ fn operators(kinds: &[u8],
 }
 
 // One operator, or the end.
-fn operator_turn(kinds: &[u8],
+fn oper(
+    kinds: &[u8],
     joints: &[u8],
     events: &mut [u64],
-    state: State, m: CompletedMarker, b: u16, inner: Depth) -> Turn
+    state: State,
+    m: CompletedMarker,
+    b: u16,
+    inner: Depth,
+) -> Turn
     ensures { λ r. ⌜ (turnReply r, now (events .exit)) ≡ run (lent (now (kinds .entry)) (now (joints .entry))) (operatorTurn (lent (now (kinds .entry)) (now (joints .entry))) (exprBp (inner .0) (lent (now (kinds .entry)) (now (joints .entry)))) b m) state (now (events .entry)) ⌝ }
 {
     let at = state.pos.0;
@@ -152,16 +252,21 @@ fn operator_turn(kinds: &[u8],
         return turn_of(cast_expr(kinds, joints, events, state, m));
     }
     if is_range(op) {
-        return range_expr(kinds, joints, events, state, op, m, inner);
+        return range(kinds, joints, events, state, op, m, inner);
     }
-    turn_of(bin_expr(kinds, joints, events, state, op, m, inner))
+    turn_of(infixed(kinds, joints, events, state, op, m, inner))
 }
 
 // e.g. a * b
-fn bin_expr(kinds: &[u8],
+fn infixed(
+    kinds: &[u8],
     joints: &[u8],
     events: &mut [u64],
-    state: State, op: Op, m: CompletedMarker, inner: Depth) -> Closed
+    state: State,
+    op: Op,
+    m: CompletedMarker,
+    inner: Depth,
+) -> Closed
     ensures { λ r. ⌜ (closedReply r, now (events .exit)) ≡ run (lent (now (kinds .entry)) (now (joints .entry))) (binExpr (lent (now (kinds .entry)) (now (joints .entry))) (exprBp (inner .0) (lent (now (kinds .entry)) (now (joints .entry)))) op m) state (now (events .entry)) ⌝ }
 {
     match lead(kinds, joints, events, state, m, op.kind) {
@@ -178,10 +283,15 @@ fn bin_expr(kinds: &[u8],
 }
 
 // e.g. 1..2, 1..
-fn range_expr(kinds: &[u8],
+fn range(
+    kinds: &[u8],
     joints: &[u8],
     events: &mut [u64],
-    state: State, op: Op, m: CompletedMarker, inner: Depth) -> Turn
+    state: State,
+    op: Op,
+    m: CompletedMarker,
+    inner: Depth,
+) -> Turn
     ensures { λ r. ⌜ (turnReply r, now (events .exit)) ≡ run (lent (now (kinds .entry)) (now (joints .entry))) (rangeExpr (lent (now (kinds .entry)) (now (joints .entry))) (exprBp (inner .0) (lent (now (kinds .entry)) (now (joints .entry)))) op m) state (now (events .entry)) ⌝ }
 {
     match lead(kinds, joints, events, state, m, op.kind) {
@@ -212,33 +322,27 @@ fn last_of(c: Closed) -> Turn
 }
 
 // The left part: a prefix, a leading range, or an atom with its postfix forms.
-fn lhs(kinds: &[u8],
-    joints: &[u8],
-    events: &mut [u64],
-    state: State, inner: Depth) -> Reading
+fn lhs(kinds: &[u8], joints: &[u8], events: &mut [u64], state: State, inner: Depth) -> Reading
     ensures { λ r. ⌜ (readingReply r, now (events .exit)) ≡ run (lent (now (kinds .entry)) (now (joints .entry))) (lhs (lent (now (kinds .entry)) (now (joints .entry))) (exprBp (inner .0) (lent (now (kinds .entry)) (now (joints .entry))))) state (now (events .entry)) ⌝ }
 {
     let at = state.pos.0;
     let kind = kind_at(kinds, at);
     if kind == AMP {
-        return reading_of(ref_expr(kinds, joints, events, state, inner));
+        return reading_of(refer(kinds, joints, events, state, inner));
     }
     if is_prefix(kind) {
-        return reading_of(prefix_expr(kinds, joints, events, state, kind, inner));
+        return reading_of(unary(kinds, joints, events, state, kind, inner));
     }
     if nth_at(kinds, joints, at, DOT2EQ) {
-        return reading_of(leading_range(kinds, joints, events, state, DOT2EQ, inner));
+        return reading_of(leading(kinds, joints, events, state, DOT2EQ, inner));
     }
     if nth_at(kinds, joints, at, DOT2) {
-        return reading_of(leading_range(kinds, joints, events, state, DOT2, inner));
+        return reading_of(leading(kinds, joints, events, state, DOT2, inner));
     }
-    atom_postfix(kinds, joints, events, state, inner)
+    atoms(kinds, joints, events, state, inner)
 }
 
-fn atom_postfix(kinds: &[u8],
-    joints: &[u8],
-    events: &mut [u64],
-    state: State, inner: Depth) -> Reading
+fn atoms(kinds: &[u8], joints: &[u8], events: &mut [u64], state: State, inner: Depth) -> Reading
     ensures { λ r. ⌜ (readingReply r, now (events .exit)) ≡ run (lent (now (kinds .entry)) (now (joints .entry))) (atomPostfix (lent (now (kinds .entry)) (now (joints .entry))) (exprBp (inner .0) (lent (now (kinds .entry)) (now (joints .entry))))) state (now (events .entry)) ⌝ }
 {
     let r = atom_expr(kinds, joints, events, state, inner);
@@ -248,10 +352,7 @@ fn atom_postfix(kinds: &[u8],
     reading_of(postfix_expr(kinds, joints, events, s1, m, inner))
 }
 
-fn begin_ref(kinds: &[u8],
-    joints: &[u8],
-    events: &mut [u64],
-    state: State) -> Opened
+fn begin_ref(kinds: &[u8], joints: &[u8], events: &mut [u64], state: State) -> Opened
     ensures { λ r. ⌜ (openedReply r, now (events .exit)) ≡ run (lent (now (kinds .entry)) (now (joints .entry))) (beginRef) state (now (events .entry)) ⌝ }
 {
     match begin(kinds, joints, events, state, AMP) {
@@ -265,10 +366,7 @@ fn begin_ref(kinds: &[u8],
 }
 
 // e.g. &1, &mut a
-fn ref_expr(kinds: &[u8],
-    joints: &[u8],
-    events: &mut [u64],
-    state: State, inner: Depth) -> Closed
+fn refer(kinds: &[u8], joints: &[u8], events: &mut [u64], state: State, inner: Depth) -> Closed
     ensures { λ r. ⌜ (closedReply r, now (events .exit)) ≡ run (lent (now (kinds .entry)) (now (joints .entry))) (refExpr (lent (now (kinds .entry)) (now (joints .entry))) (exprBp (inner .0) (lent (now (kinds .entry)) (now (joints .entry))))) state (now (events .entry)) ⌝ }
 {
     match begin_ref(kinds, joints, events, state) {
@@ -282,10 +380,14 @@ fn ref_expr(kinds: &[u8],
 }
 
 // e.g. **&1, !!true, --1
-fn prefix_expr(kinds: &[u8],
+fn unary(
+    kinds: &[u8],
     joints: &[u8],
     events: &mut [u64],
-    state: State, kind: u8, inner: Depth) -> Closed
+    state: State,
+    kind: u8,
+    inner: Depth,
+) -> Closed
     ensures { λ r. ⌜ (closedReply r, now (events .exit)) ≡ run (lent (now (kinds .entry)) (now (joints .entry))) (prefixExpr (lent (now (kinds .entry)) (now (joints .entry))) (exprBp (inner .0) (lent (now (kinds .entry)) (now (joints .entry)))) kind) state (now (events .entry)) ⌝ }
 {
     match begin(kinds, joints, events, state, kind) {
@@ -299,10 +401,14 @@ fn prefix_expr(kinds: &[u8],
 }
 
 // e.g. .., ..=1
-fn leading_range(kinds: &[u8],
+fn leading(
+    kinds: &[u8],
     joints: &[u8],
     events: &mut [u64],
-    state: State, kind: u8, inner: Depth) -> Closed
+    state: State,
+    kind: u8,
+    inner: Depth,
+) -> Closed
     ensures { λ r. ⌜ (closedReply r, now (events .exit)) ≡ run (lent (now (kinds .entry)) (now (joints .entry))) (leadingRange (lent (now (kinds .entry)) (now (joints .entry))) (exprBp (inner .0) (lent (now (kinds .entry)) (now (joints .entry)))) kind) state (now (events .entry)) ⌝ }
 {
     match begin(kinds, joints, events, state, kind) {
@@ -311,7 +417,7 @@ fn leading_range(kinds: &[u8],
             if !operand_follows(kinds, joints, at) {
                 return complete(events, s1, m, RANGE_EXPR);
             }
-            match expr_bp(kinds, joints, events, s1, RANGE, inner) {
+            match expr_bp(kinds, joints, events, s1, RANGE_OPERAND, inner) {
                 Reading::Expr(s2, _) => complete(events, s2, m, RANGE_EXPR),
                 Reading::NoExpr(s2) => complete(events, s2, m, RANGE_EXPR),
                 Reading::Refused(r) => Closed::Refused(r),
@@ -322,17 +428,21 @@ fn leading_range(kinds: &[u8],
 }
 
 // The postfix forms that follow an expression. e.g. a(1)[2].b?
-fn postfix_expr(kinds: &[u8],
+fn postfix_expr(
+    kinds: &[u8],
     joints: &[u8],
     events: &mut [u64],
-    state: State, first: CompletedMarker, inner: Depth) -> Closed
+    state: State,
+    first: CompletedMarker,
+    inner: Depth,
+) -> Closed
     ensures { λ r. ⌜ (closedReply r, now (events .exit)) ≡ run (lent (now (kinds .entry)) (now (joints .entry))) (postfixExpr (lent (now (kinds .entry)) (now (joints .entry))) (exprBp (inner .0) (lent (now (kinds .entry)) (now (joints .entry)))) first) state (now (events .entry)) ⌝ }
 {
     let mut s = state;
     let mut m = first;
     let mut recovery = false;
     loop {
-        match postfix_turn(kinds, joints, events, s, m, recovery, inner) {
+        match tail(kinds, joints, events, s, m, recovery, inner) {
             Postfix::Again(s1, m1, next) => {
                 s = s1;
                 m = m1;
@@ -345,10 +455,15 @@ fn postfix_expr(kinds: &[u8],
 }
 
 // One postfix form, or the end.
-fn postfix_turn(kinds: &[u8],
+fn tail(
+    kinds: &[u8],
     joints: &[u8],
     events: &mut [u64],
-    state: State, m: CompletedMarker, recovery: bool, inner: Depth) -> Postfix
+    state: State,
+    m: CompletedMarker,
+    recovery: bool,
+    inner: Depth,
+) -> Postfix
     ensures { λ r. ⌜ (postfixReply r, now (events .exit)) ≡ run (lent (now (kinds .entry)) (now (joints .entry))) (postfixTurn (lent (now (kinds .entry)) (now (joints .entry))) (exprBp (inner .0) (lent (now (kinds .entry)) (now (joints .entry)))) (m, recovery)) state (now (events .entry)) ⌝ }
 {
     if recovery {
@@ -366,10 +481,15 @@ fn postfix_turn(kinds: &[u8],
 }
 
 // A method call, `.await` or a field; the postfix forms end before `..` and `..=`.
-fn postfix_dot_expr(kinds: &[u8],
+fn postfix_dot_expr(
+    kinds: &[u8],
     joints: &[u8],
     events: &mut [u64],
-    state: State, m: CompletedMarker, recovery: bool, inner: Depth) -> Postfix
+    state: State,
+    m: CompletedMarker,
+    recovery: bool,
+    inner: Depth,
+) -> Postfix
     ensures { λ r. ⌜ (postfixReply r, now (events .exit)) ≡ run (lent (now (kinds .entry)) (now (joints .entry))) (postfixDotExpr (lent (now (kinds .entry)) (now (joints .entry))) (exprBp (inner .0) (lent (now (kinds .entry)) (now (joints .entry)))) recovery m) state (now (events .entry)) ⌝ }
 {
     let at = state.pos.0;
@@ -427,10 +547,14 @@ fn is_dots(kinds: &[u8], joints: &[u8], at: usize) -> bool
 }
 
 // e.g. f(1, 2,)
-fn call_expr(kinds: &[u8],
+fn call_expr(
+    kinds: &[u8],
     joints: &[u8],
     events: &mut [u64],
-    state: State, m: CompletedMarker, inner: Depth) -> Closed
+    state: State,
+    m: CompletedMarker,
+    inner: Depth,
+) -> Closed
     ensures { λ r. ⌜ (closedReply r, now (events .exit)) ≡ run (lent (now (kinds .entry)) (now (joints .entry))) (callExpr (lent (now (kinds .entry)) (now (joints .entry))) (exprBp (inner .0) (lent (now (kinds .entry)) (now (joints .entry)))) m) state (now (events .entry)) ⌝ }
 {
     match precede(events, state, m) {
@@ -443,16 +567,38 @@ fn call_expr(kinds: &[u8],
 }
 
 // e.g. x[1][2]
-fn index_expr(kinds: &[u8],
+fn index_expr(
+    kinds: &[u8],
     joints: &[u8],
     events: &mut [u64],
-    state: State, m: CompletedMarker, inner: Depth) -> Closed
+    state: State,
+    m: CompletedMarker,
+    inner: Depth,
+) -> Closed
     ensures { λ r. ⌜ (closedReply r, now (events .exit)) ≡ run (lent (now (kinds .entry)) (now (joints .entry))) (indexExpr (lent (now (kinds .entry)) (now (joints .entry))) (exprBp (inner .0) (lent (now (kinds .entry)) (now (joints .entry)))) m) state (now (events .entry)) ⌝ }
 {
     match lead(kinds, joints, events, state, m, L_BRACK) {
         Opened::Open(s1, o) => match expr_bp(kinds, joints, events, s1, TOP, inner) {
-            Reading::Expr(s2, _) => closing(kinds, joints, events, s2, R_BRACK, EXPECTED_R_BRACK, o, INDEX_EXPR),
-            Reading::NoExpr(s2) => closing(kinds, joints, events, s2, R_BRACK, EXPECTED_R_BRACK, o, INDEX_EXPR),
+            Reading::Expr(s2, _) => closing(
+                kinds,
+                joints,
+                events,
+                s2,
+                R_BRACK,
+                EXPECTED_R_BRACK,
+                o,
+                INDEX_EXPR,
+            ),
+            Reading::NoExpr(s2) => closing(
+                kinds,
+                joints,
+                events,
+                s2,
+                R_BRACK,
+                EXPECTED_R_BRACK,
+                o,
+                INDEX_EXPR,
+            ),
             Reading::Refused(r) => Closed::Refused(r),
         },
         Opened::Refused(r) => Closed::Refused(r),
@@ -460,10 +606,14 @@ fn index_expr(kinds: &[u8],
 }
 
 // A start before a node, and its dot unless a float's was read.
-fn dotted(kinds: &[u8],
+fn dotted(
+    kinds: &[u8],
     joints: &[u8],
     events: &mut [u64],
-    state: State, m: CompletedMarker, recovery: bool) -> Opened
+    state: State,
+    m: CompletedMarker,
+    recovery: bool,
+) -> Opened
     ensures { λ r. ⌜ (openedReply r, now (events .exit)) ≡ run (lent (now (kinds .entry)) (now (joints .entry))) (dotted recovery m) state (now (events .entry)) ⌝ }
 {
     if recovery {
@@ -473,10 +623,15 @@ fn dotted(kinds: &[u8],
 }
 
 // e.g. x.foo(), x.0. call()
-fn method_call_expr(kinds: &[u8],
+fn method_call_expr(
+    kinds: &[u8],
     joints: &[u8],
     events: &mut [u64],
-    state: State, m: CompletedMarker, recovery: bool, inner: Depth) -> Closed
+    state: State,
+    m: CompletedMarker,
+    recovery: bool,
+    inner: Depth,
+) -> Closed
     ensures { λ r. ⌜ (closedReply r, now (events .exit)) ≡ run (lent (now (kinds .entry)) (now (joints .entry))) (methodCallExpr (lent (now (kinds .entry)) (now (joints .entry))) (exprBp (inner .0) (lent (now (kinds .entry)) (now (joints .entry)))) recovery m) state (now (events .entry)) ⌝ }
 {
     match method_head(kinds, joints, events, state, m, recovery) {
@@ -488,10 +643,14 @@ fn method_call_expr(kinds: &[u8],
     }
 }
 
-fn method_head(kinds: &[u8],
+fn method_head(
+    kinds: &[u8],
     joints: &[u8],
     events: &mut [u64],
-    state: State, m: CompletedMarker, recovery: bool) -> Opened
+    state: State,
+    m: CompletedMarker,
+    recovery: bool,
+) -> Opened
     ensures { λ r. ⌜ (openedReply r, now (events .exit)) ≡ run (lent (now (kinds .entry)) (now (joints .entry))) (methodHead (lent (now (kinds .entry)) (now (joints .entry))) recovery m) state (now (events .entry)) ⌝ }
 {
     match dotted(kinds, joints, events, state, m, recovery) {
@@ -503,10 +662,7 @@ fn method_head(kinds: &[u8],
     }
 }
 
-fn method_name(kinds: &[u8],
-    joints: &[u8],
-    events: &mut [u64],
-    state: State) -> Moved
+fn method_name(kinds: &[u8], joints: &[u8], events: &mut [u64], state: State) -> Moved
     ensures { λ r. ⌜ (movedReply r, now (events .exit)) ≡ run (lent (now (kinds .entry)) (now (joints .entry))) (methodName (lent (now (kinds .entry)) (now (joints .entry)))) state (now (events .entry)) ⌝ }
 {
     let at = state.pos.0;
@@ -521,10 +677,7 @@ fn method_name(kinds: &[u8],
 }
 
 // Generic arguments are outside the cut.
-fn no_generics(kinds: &[u8],
-    joints: &[u8],
-    events: &mut [u64],
-    state: State) -> Moved
+fn no_generics(kinds: &[u8], joints: &[u8], events: &mut [u64], state: State) -> Moved
     ensures { λ r. ⌜ (movedReply r, now (events .exit)) ≡ run (lent (now (kinds .entry)) (now (joints .entry))) (noGenerics (lent (now (kinds .entry)) (now (joints .entry)))) state (now (events .entry)) ⌝ }
 {
     let at = state.pos.0;
@@ -538,10 +691,14 @@ fn no_generics(kinds: &[u8],
 }
 
 // e.g. x.await, x.0. await
-fn await_expr(kinds: &[u8],
+fn await_expr(
+    kinds: &[u8],
     joints: &[u8],
     events: &mut [u64],
-    state: State, m: CompletedMarker, recovery: bool) -> Closed
+    state: State,
+    m: CompletedMarker,
+    recovery: bool,
+) -> Closed
     ensures { λ r. ⌜ (closedReply r, now (events .exit)) ≡ run (lent (now (kinds .entry)) (now (joints .entry))) (awaitExpr recovery m) state (now (events .entry)) ⌝ }
 {
     match dotted(kinds, joints, events, state, m, recovery) {
@@ -554,10 +711,14 @@ fn await_expr(kinds: &[u8],
 }
 
 // e.g. x.foo, x.0, x.0.1, x.0. bar
-fn field_expr(kinds: &[u8],
+fn field_expr(
+    kinds: &[u8],
     joints: &[u8],
     events: &mut [u64],
-    state: State, m: CompletedMarker, recovery: bool) -> Postfix
+    state: State,
+    m: CompletedMarker,
+    recovery: bool,
+) -> Postfix
     ensures { λ r. ⌜ (postfixReply r, now (events .exit)) ≡ run (lent (now (kinds .entry)) (now (joints .entry))) (fieldExpr (lent (now (kinds .entry)) (now (joints .entry))) recovery m) state (now (events .entry)) ⌝ }
 {
     match dotted(kinds, joints, events, state, m, recovery) {
@@ -566,10 +727,7 @@ fn field_expr(kinds: &[u8],
     }
 }
 
-fn field(kinds: &[u8],
-    joints: &[u8],
-    events: &mut [u64],
-    state: State, m: Marker) -> Postfix
+fn field(kinds: &[u8], joints: &[u8], events: &mut [u64], state: State, m: Marker) -> Postfix
     ensures { λ r. ⌜ (postfixReply r, now (events .exit)) ≡ run (lent (now (kinds .entry)) (now (joints .entry))) (field (lent (now (kinds .entry)) (now (joints .entry))) m) state (now (events .entry)) ⌝ }
 {
     let at = state.pos.0;
@@ -583,10 +741,7 @@ fn field(kinds: &[u8],
     postfix_of(no_field(kinds, joints, events, state, m))
 }
 
-fn named_field(kinds: &[u8],
-    joints: &[u8],
-    events: &mut [u64],
-    state: State, m: Marker) -> Closed
+fn named_field(kinds: &[u8], joints: &[u8], events: &mut [u64], state: State, m: Marker) -> Closed
     ensures { λ r. ⌜ (closedReply r, now (events .exit)) ≡ run (lent (now (kinds .entry)) (now (joints .entry))) (namedField m) state (now (events .entry)) ⌝ }
 {
     match leaf(kinds, joints, events, state, NAME_REF) {
@@ -595,10 +750,7 @@ fn named_field(kinds: &[u8],
     }
 }
 
-fn no_field(kinds: &[u8],
-    joints: &[u8],
-    events: &mut [u64],
-    state: State, m: Marker) -> Closed
+fn no_field(kinds: &[u8], joints: &[u8], events: &mut [u64], state: State, m: Marker) -> Closed
     ensures { λ r. ⌜ (closedReply r, now (events .exit)) ≡ run (lent (now (kinds .entry)) (now (joints .entry))) (noField m) state (now (events .entry)) ⌝ }
 {
     match error(events, state, EXPECTED_FIELD) {
@@ -608,10 +760,7 @@ fn no_field(kinds: &[u8],
 }
 
 // A float in field place is split; one that ends in a dot has the next name's dot read already.
-fn float_field(kinds: &[u8],
-    joints: &[u8],
-    events: &mut [u64],
-    state: State, m: Marker) -> Postfix
+fn float_field(kinds: &[u8], joints: &[u8], events: &mut [u64], state: State, m: Marker) -> Postfix
     ensures { λ r. ⌜ (postfixReply r, now (events .exit)) ≡ run (lent (now (kinds .entry)) (now (joints .entry))) (floatField (lent (now (kinds .entry)) (now (joints .entry))) m) state (now (events .entry)) ⌝ }
 {
     let at = state.pos.0;
@@ -627,10 +776,13 @@ fn float_field(kinds: &[u8],
 }
 
 // e.g. x?
-fn try_expr(kinds: &[u8],
+fn try_expr(
+    kinds: &[u8],
     joints: &[u8],
     events: &mut [u64],
-    state: State, m: CompletedMarker) -> Closed
+    state: State,
+    m: CompletedMarker,
+) -> Closed
     ensures { λ r. ⌜ (closedReply r, now (events .exit)) ≡ run (lent (now (kinds .entry)) (now (joints .entry))) (tryExpr m) state (now (events .entry)) ⌝ }
 {
     match lead(kinds, joints, events, state, m, QUESTION) {
@@ -640,25 +792,28 @@ fn try_expr(kinds: &[u8],
 }
 
 // e.g. (1, 2,)
-fn arg_list(kinds: &[u8],
-    joints: &[u8],
-    events: &mut [u64],
-    state: State, inner: Depth) -> Closed
+fn arg_list(kinds: &[u8], joints: &[u8], events: &mut [u64], state: State, inner: Depth) -> Closed
     ensures { λ r. ⌜ (closedReply r, now (events .exit)) ≡ run (lent (now (kinds .entry)) (now (joints .entry))) (argList (lent (now (kinds .entry)) (now (joints .entry))) (exprBp (inner .0) (lent (now (kinds .entry)) (now (joints .entry))))) state (now (events .entry)) ⌝ }
 {
     match begin(kinds, joints, events, state, L_PAREN) {
-        Opened::Open(s1, m) => match arguments(kinds, joints, events, s1, inner) {
-            Moved::On(s2) => closing(kinds, joints, events, s2, R_PAREN, EXPECTED_R_PAREN, m, ARG_LIST),
+        Opened::Open(s1, m) => match args(kinds, joints, events, s1, inner) {
+            Moved::On(s2) => closing(
+                kinds,
+                joints,
+                events,
+                s2,
+                R_PAREN,
+                EXPECTED_R_PAREN,
+                m,
+                ARG_LIST,
+            ),
             Moved::Refused(r) => Closed::Refused(r),
         },
         Opened::Refused(r) => Closed::Refused(r),
     }
 }
 
-fn arguments(kinds: &[u8],
-    joints: &[u8],
-    events: &mut [u64],
-    state: State, inner: Depth) -> Moved
+fn args(kinds: &[u8], joints: &[u8], events: &mut [u64], state: State, inner: Depth) -> Moved
     ensures { λ r. ⌜ (movedReply r, now (events .exit)) ≡ run (lent (now (kinds .entry)) (now (joints .entry))) (arguments (lent (now (kinds .entry)) (now (joints .entry))) (exprBp (inner .0) (lent (now (kinds .entry)) (now (joints .entry))))) state (now (events .entry)) ⌝ }
 {
     let mut s = state;
@@ -672,10 +827,7 @@ fn arguments(kinds: &[u8],
 }
 
 // One argument and the comma after it, or the end.
-fn arg(kinds: &[u8],
-    joints: &[u8],
-    events: &mut [u64],
-    state: State, inner: Depth) -> Args
+fn arg(kinds: &[u8], joints: &[u8], events: &mut [u64], state: State, inner: Depth) -> Args
     ensures { λ r. ⌜ (argsReply r, now (events .exit)) ≡ run (lent (now (kinds .entry)) (now (joints .entry))) (argument (lent (now (kinds .entry)) (now (joints .entry))) (exprBp (inner .0) (lent (now (kinds .entry)) (now (joints .entry))))) state (now (events .entry)) ⌝ }
 {
     let at = state.pos.0;
@@ -694,10 +846,7 @@ fn arg(kinds: &[u8],
 }
 
 // A comma where an expression should be.
-fn lone_comma(kinds: &[u8],
-    joints: &[u8],
-    events: &mut [u64],
-    state: State) -> Args
+fn lone_comma(kinds: &[u8], joints: &[u8], events: &mut [u64], state: State) -> Args
     ensures { λ r. ⌜ (argsReply r, now (events .exit)) ≡ run (lent (now (kinds .entry)) (now (joints .entry))) (loneComma) state (now (events .entry)) ⌝ }
 {
     match err_and_bump(kinds, joints, events, state) {
@@ -717,10 +866,7 @@ fn args_end(reading: Reading) -> Args
     }
 }
 
-fn after_argument(kinds: &[u8],
-    joints: &[u8],
-    events: &mut [u64],
-    state: State) -> Args
+fn after_argument(kinds: &[u8], joints: &[u8], events: &mut [u64], state: State) -> Args
     ensures { λ r. ⌜ (argsReply r, now (events .exit)) ≡ run (lent (now (kinds .entry)) (now (joints .entry))) (afterArgument (lent (now (kinds .entry)) (now (joints .entry)))) state (now (events .entry)) ⌝ }
 {
     match eat(kinds, joints, events, state, COMMA) {
@@ -731,10 +877,7 @@ fn after_argument(kinds: &[u8],
 }
 
 // Before a first token the comma is missing; otherwise the arguments end.
-fn no_comma(kinds: &[u8],
-    joints: &[u8],
-    events: &mut [u64],
-    state: State) -> Args
+fn no_comma(kinds: &[u8], joints: &[u8], events: &mut [u64], state: State) -> Args
     ensures { λ r. ⌜ (argsReply r, now (events .exit)) ≡ run (lent (now (kinds .entry)) (now (joints .entry))) (noComma (lent (now (kinds .entry)) (now (joints .entry)))) state (now (events .entry)) ⌝ }
 {
     let at = state.pos.0;
@@ -749,10 +892,7 @@ fn no_comma(kinds: &[u8],
 }
 
 // A literal, a path or a parenthesis.
-fn atom_expr(kinds: &[u8],
-    joints: &[u8],
-    events: &mut [u64],
-    state: State, inner: Depth) -> Reading
+fn atom_expr(kinds: &[u8], joints: &[u8], events: &mut [u64], state: State, inner: Depth) -> Reading
     ensures { λ r. ⌜ (readingReply r, now (events .exit)) ≡ run (lent (now (kinds .entry)) (now (joints .entry))) (atomExpr (lent (now (kinds .entry)) (now (joints .entry))) (exprBp (inner .0) (lent (now (kinds .entry)) (now (joints .entry))))) state (now (events .entry)) ⌝ }
 {
     let at = state.pos.0;
@@ -761,16 +901,13 @@ fn atom_expr(kinds: &[u8],
         return reading_of(path_node(kinds, joints, events, state, PATH_EXPR));
     }
     if kind == L_PAREN {
-        return reading_of(paren_expr(kinds, joints, events, state, inner));
+        return reading_of(paren(kinds, joints, events, state, inner));
     }
     plain_atom(kinds, joints, events, state)
 }
 
 // A literal; a `.` that is no range; what the cut leaves out.
-fn plain_atom(kinds: &[u8],
-    joints: &[u8],
-    events: &mut [u64],
-    state: State) -> Reading
+fn plain_atom(kinds: &[u8], joints: &[u8], events: &mut [u64], state: State) -> Reading
     ensures { λ r. ⌜ (readingReply r, now (events .exit)) ≡ run (lent (now (kinds .entry)) (now (joints .entry))) (plainAtom (lent (now (kinds .entry)) (now (joints .entry)))) state (now (events .entry)) ⌝ }
 {
     let at = state.pos.0;
@@ -788,10 +925,7 @@ fn plain_atom(kinds: &[u8],
 }
 
 // A `.` that is no range.
-fn lone_dot(kinds: &[u8],
-    joints: &[u8],
-    events: &mut [u64],
-    state: State) -> Reading
+fn lone_dot(kinds: &[u8], joints: &[u8], events: &mut [u64], state: State) -> Reading
     ensures { λ r. ⌜ (readingReply r, now (events .exit)) ≡ run (lent (now (kinds .entry)) (now (joints .entry))) (loneDot (lent (now (kinds .entry)) (now (joints .entry)))) state (now (events .entry)) ⌝ }
 {
     match err_recover(kinds, joints, events, state) {
@@ -801,10 +935,7 @@ fn lone_dot(kinds: &[u8],
 }
 
 // e.g. (1 + 2)
-fn paren_expr(kinds: &[u8],
-    joints: &[u8],
-    events: &mut [u64],
-    state: State, inner: Depth) -> Closed
+fn paren(kinds: &[u8], joints: &[u8], events: &mut [u64], state: State, inner: Depth) -> Closed
     ensures { λ r. ⌜ (closedReply r, now (events .exit)) ≡ run (lent (now (kinds .entry)) (now (joints .entry))) (parenExpr (lent (now (kinds .entry)) (now (joints .entry))) (exprBp (inner .0) (lent (now (kinds .entry)) (now (joints .entry))))) state (now (events .entry)) ⌝ }
 {
     match begin(kinds, joints, events, state, L_PAREN) {
@@ -819,7 +950,16 @@ fn paren_expr(kinds: &[u8],
             }
             match expr_bp(kinds, joints, events, s1, TOP, inner) {
                 Reading::Expr(s2, _) => paren_tail(kinds, joints, events, s2, m),
-                Reading::NoExpr(s2) => closing(kinds, joints, events, s2, R_PAREN, EXPECTED_R_PAREN, m, PAREN_EXPR),
+                Reading::NoExpr(s2) => closing(
+                    kinds,
+                    joints,
+                    events,
+                    s2,
+                    R_PAREN,
+                    EXPECTED_R_PAREN,
+                    m,
+                    PAREN_EXPR,
+                ),
                 Reading::Refused(r) => Closed::Refused(r),
             }
         }
@@ -828,10 +968,7 @@ fn paren_expr(kinds: &[u8],
 }
 
 // A tuple is outside the cut.
-fn paren_tail(kinds: &[u8],
-    joints: &[u8],
-    events: &mut [u64],
-    state: State, m: Marker) -> Closed
+fn paren_tail(kinds: &[u8], joints: &[u8], events: &mut [u64], state: State, m: Marker) -> Closed
     ensures { λ r. ⌜ (closedReply r, now (events .exit)) ≡ run (lent (now (kinds .entry)) (now (joints .entry))) (parenTail (lent (now (kinds .entry)) (now (joints .entry))) m) state (now (events .entry)) ⌝ }
 {
     let at = state.pos.0;
@@ -842,5 +979,14 @@ fn paren_tail(kinds: &[u8],
             place: at,
         });
     }
-    closing(kinds, joints, events, state, R_PAREN, EXPECTED_R_PAREN, m, PAREN_EXPR)
+    closing(
+        kinds,
+        joints,
+        events,
+        state,
+        R_PAREN,
+        EXPECTED_R_PAREN,
+        m,
+        PAREN_EXPR,
+    )
 }

@@ -1,10 +1,10 @@
 // The operator grammar: the crate's grammar/expressions.rs with the cut atoms, paths and types.
-pub mod token_set;
-pub mod operator;
 pub mod atom;
-pub mod paths;
-pub mod types;
 pub mod expressions;
+pub mod operator;
+pub mod paths;
+pub mod token_set;
+pub mod types;
 
 use event::State;
 use input::Refusal;

@@ -5,18 +5,30 @@ ghost use Rattle.parser.specs.Prog.{run};
 ghost use Rattle.grammar.specs.Views.{closedReply, movedReply, turnReply};
 ghost use Rattle.grammar.specs.Atom.{segment, firstPath, qualified, pathTurn, pathRest, path, noMacro, plainPath, pathNode};
 use crate::Turn;
-use crate::atom::{lead, leaf, turn_of};
+use crate::atom::lead;
+use crate::atom::leaf;
+use crate::atom::turn_of;
 use event::State;
-use input::{Refusal, kind_at, nth_at};
-use input::syntax_kind::{BANG, COLON2, IDENT, NAME_REF, NEQ, OUTSIDE_CUT, PATH, PATH_SEGMENT};
-use parser::{Closed, CompletedMarker, Moved, Opened};
-use parser::inner::{complete, start};
+use input::Refusal;
+use input::kind_at;
+use input::nth_at;
+use input::syntax_kind::BANG;
+use input::syntax_kind::COLON2;
+use input::syntax_kind::IDENT;
+use input::syntax_kind::NAME_REF;
+use input::syntax_kind::NEQ;
+use input::syntax_kind::OUTSIDE_CUT;
+use input::syntax_kind::PATH;
+use input::syntax_kind::PATH_SEGMENT;
+use parser::Closed;
+use parser::CompletedMarker;
+use parser::Moved;
+use parser::Opened;
+use parser::inner::complete;
+use parser::inner::start;
 
 // A path under a node of its own, PATH_EXPR or PATH_TYPE. e.g. a::b
-pub fn path_node(kinds: &[u8],
-    joints: &[u8],
-    events: &mut [u64],
-    state: State, node: u8) -> Closed
+pub fn path_node(kinds: &[u8], joints: &[u8], events: &mut [u64], state: State, node: u8) -> Closed
     ensures { λ r. ⌜ (closedReply r, now (events .exit)) ≡ run (lent (now (kinds .entry)) (now (joints .entry))) (pathNode (lent (now (kinds .entry)) (now (joints .entry))) node) state (now (events .entry)) ⌝ }
 {
     match start(events, state) {
@@ -29,10 +41,7 @@ pub fn path_node(kinds: &[u8],
 }
 
 // A path that no `!` follows.
-fn plain_path(kinds: &[u8],
-    joints: &[u8],
-    events: &mut [u64],
-    state: State) -> Moved
+fn plain_path(kinds: &[u8], joints: &[u8], events: &mut [u64], state: State) -> Moved
     ensures { λ r. ⌜ (movedReply r, now (events .exit)) ≡ run (lent (now (kinds .entry)) (now (joints .entry))) (plainPath (lent (now (kinds .entry)) (now (joints .entry)))) state (now (events .entry)) ⌝ }
 {
     match path(kinds, joints, events, state) {
@@ -41,10 +50,7 @@ fn plain_path(kinds: &[u8],
     }
 }
 
-fn path(kinds: &[u8],
-    joints: &[u8],
-    events: &mut [u64],
-    state: State) -> Closed
+fn path(kinds: &[u8], joints: &[u8], events: &mut [u64], state: State) -> Closed
     ensures { λ r. ⌜ (closedReply r, now (events .exit)) ≡ run (lent (now (kinds .entry)) (now (joints .entry))) (path (lent (now (kinds .entry)) (now (joints .entry)))) state (now (events .entry)) ⌝ }
 {
     match first_path(kinds, joints, events, state) {
@@ -53,10 +59,7 @@ fn path(kinds: &[u8],
     }
 }
 
-fn first_path(kinds: &[u8],
-    joints: &[u8],
-    events: &mut [u64],
-    state: State) -> Closed
+fn first_path(kinds: &[u8], joints: &[u8], events: &mut [u64], state: State) -> Closed
     ensures { λ r. ⌜ (closedReply r, now (events .exit)) ≡ run (lent (now (kinds .entry)) (now (joints .entry))) (firstPath) state (now (events .entry)) ⌝ }
 {
     match start(events, state) {
@@ -69,10 +72,13 @@ fn first_path(kinds: &[u8],
 }
 
 // The `::` and names that follow a path.
-fn path_rest(kinds: &[u8],
+fn path_rest(
+    kinds: &[u8],
     joints: &[u8],
     events: &mut [u64],
-    state: State, first: CompletedMarker) -> Closed
+    state: State,
+    first: CompletedMarker,
+) -> Closed
     ensures { λ r. ⌜ (closedReply r, now (events .exit)) ≡ run (lent (now (kinds .entry)) (now (joints .entry))) (pathRest (lent (now (kinds .entry)) (now (joints .entry))) first) state (now (events .entry)) ⌝ }
 {
     let mut s = state;
@@ -89,10 +95,13 @@ fn path_rest(kinds: &[u8],
     }
 }
 
-fn path_turn(kinds: &[u8],
+fn path_turn(
+    kinds: &[u8],
     joints: &[u8],
     events: &mut [u64],
-    state: State, m: CompletedMarker) -> Turn
+    state: State,
+    m: CompletedMarker,
+) -> Turn
     ensures { λ r. ⌜ (turnReply r, now (events .exit)) ≡ run (lent (now (kinds .entry)) (now (joints .entry))) (pathTurn (lent (now (kinds .entry)) (now (joints .entry))) m) state (now (events .entry)) ⌝ }
 {
     let at = state.pos.0;
@@ -110,10 +119,13 @@ fn path_turn(kinds: &[u8],
 }
 
 // e.g. ::b
-fn qualified(kinds: &[u8],
+fn qualified(
+    kinds: &[u8],
     joints: &[u8],
     events: &mut [u64],
-    state: State, m: CompletedMarker) -> Closed
+    state: State,
+    m: CompletedMarker,
+) -> Closed
     ensures { λ r. ⌜ (closedReply r, now (events .exit)) ≡ run (lent (now (kinds .entry)) (now (joints .entry))) (qualified m) state (now (events .entry)) ⌝ }
 {
     match lead(kinds, joints, events, state, m, COLON2) {
@@ -125,10 +137,7 @@ fn qualified(kinds: &[u8],
     }
 }
 
-fn segment(kinds: &[u8],
-    joints: &[u8],
-    events: &mut [u64],
-    state: State) -> Closed
+fn segment(kinds: &[u8], joints: &[u8], events: &mut [u64], state: State) -> Closed
     ensures { λ r. ⌜ (closedReply r, now (events .exit)) ≡ run (lent (now (kinds .entry)) (now (joints .entry))) (segment) state (now (events .entry)) ⌝ }
 {
     match start(events, state) {
@@ -141,10 +150,7 @@ fn segment(kinds: &[u8],
 }
 
 // A macro call is outside the cut; `!=` is an operator.
-fn no_macro(kinds: &[u8],
-    joints: &[u8],
-    events: &mut [u64],
-    state: State) -> Moved
+fn no_macro(kinds: &[u8], joints: &[u8], events: &mut [u64], state: State) -> Moved
     ensures { λ r. ⌜ (movedReply r, now (events .exit)) ≡ run (lent (now (kinds .entry)) (now (joints .entry))) (noMacro (lent (now (kinds .entry)) (now (joints .entry)))) state (now (events .entry)) ⌝ }
 {
     let at = state.pos.0;

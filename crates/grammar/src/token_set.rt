@@ -1,7 +1,25 @@
 // Sets of raw kinds.
 ghost use mathlib.Core.Path.{_≡_};
 ghost use Rattle.grammar.specs.TokenSet.{isFirst, isClosing, endsArguments, isPrefix, isFieldName, outsideAtom, outsideType};
-use input::syntax_kind::{AMP, BANG, COLON, DOT, EOF, FALSE_KW, FLOAT_NUMBER, IDENT, INT_NUMBER, L_ANGLE, L_BRACK, L_PAREN, MINUS, PIPE, R_BRACK, R_PAREN, STAR, STRING, TRUE_KW};
+use input::syntax_kind::AMP;
+use input::syntax_kind::BANG;
+use input::syntax_kind::COLON;
+use input::syntax_kind::DOT;
+use input::syntax_kind::EOF;
+use input::syntax_kind::FALSE_KW;
+use input::syntax_kind::FLOAT_NUMBER;
+use input::syntax_kind::IDENT;
+use input::syntax_kind::INT_NUMBER;
+use input::syntax_kind::L_ANGLE;
+use input::syntax_kind::L_BRACK;
+use input::syntax_kind::L_PAREN;
+use input::syntax_kind::MINUS;
+use input::syntax_kind::PIPE;
+use input::syntax_kind::R_BRACK;
+use input::syntax_kind::R_PAREN;
+use input::syntax_kind::STAR;
+use input::syntax_kind::STRING;
+use input::syntax_kind::TRUE_KW;
 
 // The first tokens of an expression.
 pub fn is_first(kind: u8) -> bool

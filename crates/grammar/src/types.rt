@@ -8,16 +8,33 @@ use crate::atom::lead;
 use crate::paths::path_node;
 use crate::token_set::outside_type;
 use event::State;
-use input::{Refusal, kind_at, nth_at};
-use input::syntax_kind::{AS_KW, CAST_EXPR, EXPECTED_TYPE, IDENT, L_ANGLE, L_PAREN, LTEQ, OUTSIDE_CUT, PATH_TYPE};
-use parser::{Closed, CompletedMarker, Moved, Opened};
-use parser::inner::{complete, error};
+use input::Refusal;
+use input::kind_at;
+use input::nth_at;
+use input::syntax_kind::AS_KW;
+use input::syntax_kind::CAST_EXPR;
+use input::syntax_kind::EXPECTED_TYPE;
+use input::syntax_kind::IDENT;
+use input::syntax_kind::L_ANGLE;
+use input::syntax_kind::L_PAREN;
+use input::syntax_kind::LTEQ;
+use input::syntax_kind::OUTSIDE_CUT;
+use input::syntax_kind::PATH_TYPE;
+use parser::Closed;
+use parser::CompletedMarker;
+use parser::Moved;
+use parser::Opened;
+use parser::inner::complete;
+use parser::inner::error;
 
 // e.g. 82 as i32
-pub fn cast_expr(kinds: &[u8],
+pub fn cast_expr(
+    kinds: &[u8],
     joints: &[u8],
     events: &mut [u64],
-    state: State, m: CompletedMarker) -> Closed
+    state: State,
+    m: CompletedMarker,
+) -> Closed
     ensures { λ r. ⌜ (closedReply r, now (events .exit)) ≡ run (lent (now (kinds .entry)) (now (joints .entry))) (castExpr (lent (now (kinds .entry)) (now (joints .entry))) m) state (now (events .entry)) ⌝ }
 {
     match lead(kinds, joints, events, state, m, AS_KW) {
@@ -29,10 +46,7 @@ pub fn cast_expr(kinds: &[u8],
     }
 }
 
-fn cast_type(kinds: &[u8],
-    joints: &[u8],
-    events: &mut [u64],
-    state: State) -> Moved
+fn cast_type(kinds: &[u8], joints: &[u8], events: &mut [u64], state: State) -> Moved
     ensures { λ r. ⌜ (movedReply r, now (events .exit)) ≡ run (lent (now (kinds .entry)) (now (joints .entry))) (castType (lent (now (kinds .entry)) (now (joints .entry)))) state (now (events .entry)) ⌝ }
 {
     let at = state.pos.0;
@@ -49,10 +63,7 @@ fn cast_type(kinds: &[u8],
     error(events, state, EXPECTED_TYPE)
 }
 
-fn path_type(kinds: &[u8],
-    joints: &[u8],
-    events: &mut [u64],
-    state: State) -> Moved
+fn path_type(kinds: &[u8], joints: &[u8], events: &mut [u64], state: State) -> Moved
     ensures { λ r. ⌜ (movedReply r, now (events .exit)) ≡ run (lent (now (kinds .entry)) (now (joints .entry))) (pathType (lent (now (kinds .entry)) (now (joints .entry)))) state (now (events .entry)) ⌝ }
 {
     match path_node(kinds, joints, events, state, PATH_TYPE) {
@@ -62,10 +73,7 @@ fn path_type(kinds: &[u8],
 }
 
 // Arguments of a type are outside the cut; `<=` is an operator.
-fn after_type(kinds: &[u8],
-    joints: &[u8],
-    events: &mut [u64],
-    state: State) -> Moved
+fn after_type(kinds: &[u8], joints: &[u8], events: &mut [u64], state: State) -> Moved
     ensures { λ r. ⌜ (movedReply r, now (events .exit)) ≡ run (lent (now (kinds .entry)) (now (joints .entry))) (afterType (lent (now (kinds .entry)) (now (joints .entry)))) state (now (events .entry)) ⌝ }
 {
     let at = state.pos.0;

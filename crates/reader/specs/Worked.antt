@@ -53,44 +53,44 @@ pub record Worked : Type 0 where
   pub P2 : read (BANG ∷ INT-NUMBER ∷ []) (1 ∷ 0 ∷ []) ≡ (2, enter PREFIX-EXPR ∷ tok BANG ∷ literal INT-NUMBER ++ (leave ∷ []))
   -- P3 `1 + 2 * 3`: product inside
   pub P3 :
-    read (INT-NUMBER ∷ PLUS ∷ INT-NUMBER ∷ STAR ∷ INT-NUMBER ∷ []) (0 ∷ 0 ∷ 0 ∷ 0 ∷ 0 ∷ [])
-    ≡ (5, enter BIN-EXPR ∷ literal INT-NUMBER ++ (tok PLUS ∷ enter BIN-EXPR ∷ literal INT-NUMBER ++ (tok STAR ∷ literal INT-NUMBER ++ (leave ∷ leave ∷ []))))
+      read (INT-NUMBER ∷ PLUS ∷ INT-NUMBER ∷ STAR ∷ INT-NUMBER ∷ []) (0 ∷ 0 ∷ 0 ∷ 0 ∷ 0 ∷ [])
+      ≡ (5, enter BIN-EXPR ∷ literal INT-NUMBER ++ (tok PLUS ∷ enter BIN-EXPR ∷ literal INT-NUMBER ++ (tok STAR ∷ literal INT-NUMBER ++ (leave ∷ leave ∷ []))))
   -- P4 `1 = 2 = 3`: right nested
   pub P4 :
-    read (INT-NUMBER ∷ EQ ∷ INT-NUMBER ∷ EQ ∷ INT-NUMBER ∷ []) (0 ∷ 0 ∷ 0 ∷ 0 ∷ 0 ∷ [])
-    ≡ (5, enter BIN-EXPR ∷ literal INT-NUMBER ++ (tok EQ ∷ enter BIN-EXPR ∷ literal INT-NUMBER ++ (tok EQ ∷ literal INT-NUMBER ++ (leave ∷ leave ∷ []))))
+      read (INT-NUMBER ∷ EQ ∷ INT-NUMBER ∷ EQ ∷ INT-NUMBER ∷ []) (0 ∷ 0 ∷ 0 ∷ 0 ∷ 0 ∷ [])
+      ≡ (5, enter BIN-EXPR ∷ literal INT-NUMBER ++ (tok EQ ∷ enter BIN-EXPR ∷ literal INT-NUMBER ++ (tok EQ ∷ literal INT-NUMBER ++ (leave ∷ leave ∷ []))))
   -- P5 `1 < 2 < 3`: left nested
   pub P5 :
-    read (INT-NUMBER ∷ L-ANGLE ∷ INT-NUMBER ∷ L-ANGLE ∷ INT-NUMBER ∷ []) (0 ∷ 0 ∷ 0 ∷ 0 ∷ 0 ∷ [])
-    ≡ (5, enter BIN-EXPR ∷ enter BIN-EXPR ∷ literal INT-NUMBER ++ (tok L-ANGLE ∷ literal INT-NUMBER ++ (leave ∷ tok L-ANGLE ∷ literal INT-NUMBER ++ (leave ∷ []))))
+      read (INT-NUMBER ∷ L-ANGLE ∷ INT-NUMBER ∷ L-ANGLE ∷ INT-NUMBER ∷ []) (0 ∷ 0 ∷ 0 ∷ 0 ∷ 0 ∷ [])
+      ≡ (5, enter BIN-EXPR ∷ enter BIN-EXPR ∷ literal INT-NUMBER ++ (tok L-ANGLE ∷ literal INT-NUMBER ++ (leave ∷ tok L-ANGLE ∷ literal INT-NUMBER ++ (leave ∷ []))))
   -- P6 `-1 as T`: cast of the prefix
   pub P6 :
-    read (MINUS ∷ INT-NUMBER ∷ AS-KW ∷ IDENT ∷ []) (1 ∷ 0 ∷ 0 ∷ 0 ∷ [])
-    ≡ (4, enter CAST-EXPR ∷ enter PREFIX-EXPR ∷ tok MINUS ∷ literal INT-NUMBER ++ (leave ∷ tok AS-KW ∷ name PATH-TYPE ++ (leave ∷ [])))
+      read (MINUS ∷ INT-NUMBER ∷ AS-KW ∷ IDENT ∷ []) (1 ∷ 0 ∷ 0 ∷ 0 ∷ [])
+      ≡ (4, enter CAST-EXPR ∷ enter PREFIX-EXPR ∷ tok MINUS ∷ literal INT-NUMBER ++ (leave ∷ tok AS-KW ∷ name PATH-TYPE ++ (leave ∷ [])))
   -- P7 `1.. + 2`: consumed 3
   pub P7 :
-    read (INT-NUMBER ∷ DOT ∷ DOT ∷ PLUS ∷ INT-NUMBER ∷ []) (1 ∷ 1 ∷ 0 ∷ 0 ∷ 0 ∷ [])
-    ≡ (3, enter RANGE-EXPR ∷ literal INT-NUMBER ++ (glued DOT2 ∷ leave ∷ []))
+      read (INT-NUMBER ∷ DOT ∷ DOT ∷ PLUS ∷ INT-NUMBER ∷ []) (1 ∷ 1 ∷ 0 ∷ 0 ∷ 0 ∷ [])
+      ≡ (3, enter RANGE-EXPR ∷ literal INT-NUMBER ++ (glued DOT2 ∷ leave ∷ []))
   -- P8 `x = 1.. + 2`: the sum of (x = 1..) and 2
   pub P8 :
-    read (IDENT ∷ EQ ∷ INT-NUMBER ∷ DOT ∷ DOT ∷ PLUS ∷ INT-NUMBER ∷ []) (0 ∷ 0 ∷ 1 ∷ 1 ∷ 0 ∷ 0 ∷ 0 ∷ [])
-    ≡ (7, enter BIN-EXPR ∷ enter BIN-EXPR ∷ name PATH-EXPR ++ (tok EQ ∷ enter RANGE-EXPR ∷ literal INT-NUMBER ++ (glued DOT2 ∷ leave ∷ leave ∷ tok PLUS ∷ literal INT-NUMBER ++ (leave ∷ []))))
+      read (IDENT ∷ EQ ∷ INT-NUMBER ∷ DOT ∷ DOT ∷ PLUS ∷ INT-NUMBER ∷ []) (0 ∷ 0 ∷ 1 ∷ 1 ∷ 0 ∷ 0 ∷ 0 ∷ [])
+      ≡ (7, enter BIN-EXPR ∷ enter BIN-EXPR ∷ name PATH-EXPR ++ (tok EQ ∷ enter RANGE-EXPR ∷ literal INT-NUMBER ++ (glued DOT2 ∷ leave ∷ leave ∷ tok PLUS ∷ literal INT-NUMBER ++ (leave ∷ []))))
   -- P9 `a.0.1`: enter FIELD twice, 9 path steps, dot, split 0
   pub P9 :
-    read (IDENT ∷ DOT ∷ FLOAT-NUMBER ∷ []) (1 ∷ 1 ∷ 1 ∷ [])
-    ≡ (3, enter FIELD-EXPR ∷ enter FIELD-EXPR ∷ name PATH-EXPR ++ (tok DOT ∷ FLOAT-SPLIT ∷ []))
+      read (IDENT ∷ DOT ∷ FLOAT-NUMBER ∷ []) (1 ∷ 1 ∷ 1 ∷ [])
+      ≡ (3, enter FIELD-EXPR ∷ enter FIELD-EXPR ∷ name PATH-EXPR ++ (tok DOT ∷ FLOAT-SPLIT ∷ []))
   -- P10 `a.0. b`
   pub P10 :
-    read (IDENT ∷ DOT ∷ FLOAT-NUMBER ∷ IDENT ∷ []) (1 ∷ 1 ∷ 0 ∷ 0 ∷ [])
-    ≡ (4, enter FIELD-EXPR ∷ enter FIELD-EXPR ∷ name PATH-EXPR ++ (tok DOT ∷ (FLOAT-SPLIT + ENDS-IN-DOT) ∷ enter NAME-REF ∷ tok IDENT ∷ leave ∷ leave ∷ []))
+      read (IDENT ∷ DOT ∷ FLOAT-NUMBER ∷ IDENT ∷ []) (1 ∷ 1 ∷ 0 ∷ 0 ∷ [])
+      ≡ (4, enter FIELD-EXPR ∷ enter FIELD-EXPR ∷ name PATH-EXPR ++ (tok DOT ∷ (FLOAT-SPLIT + ENDS-IN-DOT) ∷ enter NAME-REF ∷ tok IDENT ∷ leave ∷ leave ∷ []))
   -- P11 `a[`: errors 1 then 6
   pub P11 :
-    read (IDENT ∷ L-BRACK ∷ []) (1 ∷ 0 ∷ [])
-    ≡ (2, enter INDEX-EXPR ∷ name PATH-EXPR ++ (tok L-BRACK ∷ enter ERROR ∷ fault EXPECTED-EXPRESSION ∷ leave ∷ fault EXPECTED-R-BRACK ∷ leave ∷ []))
+      read (IDENT ∷ L-BRACK ∷ []) (1 ∷ 0 ∷ [])
+      ≡ (2, enter INDEX-EXPR ∷ name PATH-EXPR ++ (tok L-BRACK ∷ enter ERROR ∷ fault EXPECTED-EXPRESSION ∷ leave ∷ fault EXPECTED-R-BRACK ∷ leave ∷ []))
   -- P12 `&&x`: two REF_EXPR
   pub P12 :
-    read (AMP ∷ AMP ∷ IDENT ∷ []) (1 ∷ 1 ∷ 0 ∷ [])
-    ≡ (3, enter REF-EXPR ∷ tok AMP ∷ enter REF-EXPR ∷ tok AMP ∷ name PATH-EXPR ++ (leave ∷ leave ∷ []))
+      read (AMP ∷ AMP ∷ IDENT ∷ []) (1 ∷ 1 ∷ 0 ∷ [])
+      ≡ (3, enter REF-EXPR ∷ tok AMP ∷ enter REF-EXPR ∷ tok AMP ∷ name PATH-EXPR ++ (leave ∷ leave ∷ []))
 
 pub worked : Worked
 unfolding read

@@ -32,7 +32,7 @@ returns-2 c = search tests depth 10
 add-kind-at : tie.Need-add-kind-at
 add-kind-at c =
     let h : c .before .before .before .before .before .args .at < length (now (c .before .before .before .before .before .args .kinds)) =
-      kind-inside (lent (now (c .before .before .before .before .before .args .kinds)) (now (c .before .before .before .before .before .args .joints))) _ (λ q. omega (arith, c .before .before .kind-at .ensures)) in
+    kind-inside (lent (now (c .before .before .before .before .before .args .kinds)) (now (c .before .before .before .before .before .args .joints))) _ (λ q. omega (arith, c .before .before .kind-at .ensures)) in
     search needs
 
 -- src/expressions.rt:400:9
@@ -48,7 +48,7 @@ returns-3 c = search tests depth 10
 add-nth-at : tie.Need-add-nth-at
 add-nth-at c =
     let h : c .before .before .before .before .before .before .before .args .at < length (now (c .before .before .before .before .before .before .before .args .kinds)) =
-      kind-inside (lent (now (c .before .before .before .before .before .before .before .args .kinds)) (now (c .before .before .before .before .before .before .before .args .joints))) _ (λ q. omega (arith, c .before .before .before .before .kind-at .ensures)) in
+    kind-inside (lent (now (c .before .before .before .before .before .before .before .args .kinds)) (now (c .before .before .before .before .before .before .before .args .joints))) _ (λ q. omega (arith, c .before .before .before .before .kind-at .ensures)) in
     search needs
 
 -- src/expressions.rt:404:5

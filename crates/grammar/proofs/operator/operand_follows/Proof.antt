@@ -26,7 +26,7 @@ is-first-requires c κs = search needs
 add-kind-at : tie.Need-add-kind-at
 add-kind-at c =
     let h : c .before .before .before .before .before .before .args .at < length (now (c .before .before .before .before .before .before .args .kinds)) =
-      kind-inside (lent (now (c .before .before .before .before .before .before .args .kinds)) (now (c .before .before .before .before .before .before .args .joints))) _ (λ q. omega (arith, c .before .before .before .kind-at .ensures)) in
+    kind-inside (lent (now (c .before .before .before .before .before .before .args .kinds)) (now (c .before .before .before .before .before .before .args .joints))) _ (λ q. omega (arith, c .before .before .before .kind-at .ensures)) in
     search needs
 
 -- src/operator.rt:196:17
