@@ -1,3 +1,4 @@
+-- The loop over `::` and names meets its rule: what is left to do is the whole, and fewer tokens are left after each turn. Assumes nothing.
 use mathlib.Core.Path.{_≡_, refl}
 use Prim.Native.Nat.{_-_}
 use native.Mathlib.Omega.{arith}

@@ -1,3 +1,4 @@
+-- The cycle of readings ends: a reading counts 32 for each reading that may still be opened, every other function its rank above that. With it, what each member is given and which functions it calls. Assumes nothing.
 use Rattle.grammar.proofs.expressions.infixed.Reads as infixed
 use Prim.Native.Nat.{ℕ, _<_, _+_, _*_}
 use borrow.Fn.Kinds.{In}
