@@ -9,6 +9,7 @@ use stored::Section;
 use stored::Span;
 ghost use mathlib.Core.Path.{_≡_};
 ghost use Prim.Native.Nat.{_-_, _≤_};
+ghost use Rattle.event.specs.Event.{eventLimit};
 ghost use lib.ListN.{length, take, drop};
 
 // The bytes of a form: the longest has as many as `LIMIT`.
@@ -184,13 +185,13 @@ fn answer_all(buf: &mut [u8], events: &mut [u64], steps: &mut [u32], out: &mut [
 
 // Room for the events, the steps and the text. Only the length of each is known where it is lent.
 fn events_room() -> [u64; State::LIMIT]
-    ensures { λ r. ⌜ 65552 ≡ length r ⌝ }
+    ensures { λ r. ⌜ eventLimit ≡ length r ⌝ }
 {
     [0; State::LIMIT]
 }
 
 fn steps_room() -> [u32; State::LIMIT]
-    ensures { λ r. ⌜ 65552 ≡ length r ⌝ }
+    ensures { λ r. ⌜ eventLimit ≡ length r ⌝ }
 {
     [0; State::LIMIT]
 }

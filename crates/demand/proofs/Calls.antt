@@ -28,7 +28,8 @@ use Rattle.parser.specs.declared.Parted.the-variants as parted
 use Rattle.demand.specs.Runs.{Call, starts, completes, abandons, precedes, extends, takes, takesAny, errs, splits, Tok, tok, float, Heard, accepted, declined, openedAs, closedAs, movedAs, takenAs, partedAs, heard, endsInDot, tookOf, closedOf, callOf, Place, stepTo, runOn, runOf}
 use Rattle.demand.specs.Demand.{seen}
 use Rattle.demand.proofs.Events.{History, Anchored, Lands}
-use Rattle.demand.proofs.Tokens.{both, stands-at, present-stand, width-small, raw-present, raw-small, node-small, code-small, kind-small, looked-raw}
+use Rattle.input.proofs.Laws.{both-true, stands-says, width-bounds, raw-bounds}
+use Rattle.demand.proofs.Tokens.{present-stand, raw-present, node-small, code-small, kind-small, looked-raw}
 use Rattle.event.proofs.Laws.{view-start-entry, view-preceding-entry, view-field-entry, view-finish-entry, view-token-entry, view-split-entry, view-error-entry, view-named-entry, view-parented-entry, view-extended-entry, view-spent-entry, decodes-start-entry, decodes-preceding-entry, decodes-field-entry, decodes-finish-entry, decodes-token-entry, decodes-split-entry, decodes-error-entry, decodes-named-entry, decodes-parented-entry, decodes-extended-entry, decodes-spent-entry}
 use Rattle.demand.proofs.Seen.{map-set, seen-set, seen-push, seen-two, seen-three, open-seen, closed-seen, count-seen, capacity-length, capacity-same, has-room, looked-fine, Decoded, decoded-set, decoded-push, decoded-two, decoded-three, decoded-pop}
 use Rattle.demand.proofs.Keeping.{Good, after, fresh-good, grow, still, pop, mid-same, mid-set, linked-append, linked-set, lands-append, lands-kept, far, near, last-at}
@@ -117,7 +118,7 @@ module _ (ts : Tokens) (s : State) (ev : List ℕ) (took : List Tok) (closed : L
   goes-eat k len = whether-by (Via takenAs (takes k)) (isKind k) _ _
       (λ b. whether-by (Via takenAs (takes k)) (present ts (s .pos .0) k) _ _
       (λ p. whether-by (Via takenAs (takes k)) (roomFor 1 s ev) _ _
-      (λ q. pushes (takes k) (token k (widthOf k)) (tokenEntry k (widthOf k)) (s .pos .0 + widthOf k) (view-token-entry k (widthOf k) (omega (arith, kind-small k b)) (width-small k)) (decodes-token-entry k (widthOf k) (omega (arith, kind-small k b)) (width-small k)) (has-room 1 s ev q) (omega (arith, present-stand ts (s .pos .0) k p .0))
+      (λ q. pushes (takes k) (token k (widthOf k)) (tokenEntry k (widthOf k)) (s .pos .0 + widthOf k) (view-token-entry k (widthOf k) (omega (arith, kind-small k b)) (omega (arith, width-bounds k .1))) (decodes-token-entry k (widthOf k) (omega (arith, kind-small k b)) (omega (arith, width-bounds k .1))) (has-room 1 s ev q) (omega (arith, present-stand ts (s .pos .0) k p .0))
       (grow ts at (fit .good) es _ (s .pos .0 + widthOf k) (tok k (widthOf k) ∷ []) [] [] (mid-same es) (linked-append es _ (fit .good .linked) (tt, tt)) refl (p, refl, refl) (λ h. refl) refl (λ a. omega arith) (tt, tt)))
       (λ _. refl)) (λ _. refl)) (λ _. refl)
 
@@ -128,7 +129,7 @@ module _ (ts : Tokens) (s : State) (ev : List ℕ) (took : List Tok) (closed : L
       (λ q. let k : ℕ = kindAt ts (s .pos .0) in
       let i = ltb-true (s .pos .0) (length (ts .kinds)) p in
       let r = raw-present ts (s .pos .0) i (raw i) in
-      pushes takesAny (token k 1) (tokenEntry k 1) (s .pos .0 + 1) (view-token-entry k 1 (omega (arith, raw-small k (raw i))) (omega arith)) (decodes-token-entry k 1 (omega (arith, raw-small k (raw i))) (omega arith)) (has-room 1 s ev q) (omega arith)
+      pushes takesAny (token k 1) (tokenEntry k 1) (s .pos .0 + 1) (view-token-entry k 1 (omega (arith, raw-bounds k (raw i) .1)) (omega arith)) (decodes-token-entry k 1 (omega (arith, raw-bounds k (raw i) .1)) (omega arith)) (has-room 1 s ev q) (omega arith)
       (grow ts at (fit .good) es _ (s .pos .0 + 1) (tok k 1 ∷ []) [] [] (mid-same es) (linked-append es _ (fit .good .linked) (tt, tt)) refl (r .0, r .1, refl) (λ h. refl) refl (λ a. omega arith) (tt, tt)))
       (λ _. refl)) (λ _. refl)
 
@@ -177,7 +178,7 @@ module _ (ts : Tokens) (s : State) (ev : List ℕ) (took : List Tok) (closed : L
 
   last-flag : (m : ℕ) → isLast s m ev ≡ true → (m + 1 ≡ s .count) × (eqb (flagOf (getD ev m 0)) 1 ≡ false)
   unfolding isLast
-  last-flag m q = let t = both _ _ q in (eqb-true (m + 1) (s .count) (t .0), rw (eqb-true (flagOf (getD ev m 0)) 0 (t .1)))
+  last-flag m q = let t = both-true _ _ q in (eqb-true (m + 1) (s .count) (t .0), rw (eqb-true (flagOf (getD ev m 0)) 0 (t .1)))
 
   goes-abandon : (m : ℕ) → Via movedAs (abandons m) (abandonOf s (marker m) ev)
   unfolding abandonOf
@@ -213,7 +214,7 @@ module _ (ts : Tokens) (s : State) (ev : List ℕ) (took : List Tok) (closed : L
       let e : Event = start (named FIELD-EXPR) f (eqb g 1) in
       let r = has-room 2 s ev q in
       let k : s .count + 1 < length (set ev m x) = omega (arith, capacity-length ev, length-set ev m x) in
-      fitted (splits m) (set es m e ++ (split true ∷ finish ∷ [])) (s .pos .0 + 1) (omega (arith, stands-at ts (s .pos .0) FLOAT-NUMBER p))
+      fitted (splits m) (set es m e ++ (split true ∷ finish ∷ [])) (s .pos .0 + 1) (omega (arith, stands-says ts (s .pos .0) FLOAT-NUMBER p .inside))
       (rw (closed-dot m d, d) (grow ts at (fit .good) (set es m e) (split true ∷ finish ∷ []) (s .pos .0 + 1) (float true ∷ []) (FIELD-EXPR ∷ []) [] (mid-set es m live (named FIELD-EXPR) f f (eqb g 1) (eqb g 1) (FIELD-EXPR ∷ []) (i .1) refl)
       (linked-set es (split true ∷ finish ∷ []) m e (λ _. tt) (lands-kept es _ m live f (eqb g 1) (i .1) (fit .good .linked)) (fit .good .linked) (tt, (tt, tt))) refl (p, sym d, refl) (λ h. omega arith) refl (λ a. omega arith) (refl, (tt, tt))))
       (s .count + 2) (set (set (set ev m x) (s .count) (splitEntry 1)) (s .count + 1) finishEntry)
@@ -235,7 +236,7 @@ module _ (ts : Tokens) (s : State) (ev : List ℕ) (took : List Tok) (closed : L
       let fs : List Event = start (named FIELD-EXPR) 0 false ∷ split false ∷ finish ∷ [] in
       let r = has-room 3 s ev q in
       let k : s .count + 2 < length (set ev m x) = omega (arith, capacity-length ev, length-set ev m x) in
-      fitted (splits m) (set es m e ++ fs) (s .pos .0 + 1) (omega (arith, stands-at ts (s .pos .0) FLOAT-NUMBER p))
+      fitted (splits m) (set es m e ++ fs) (s .pos .0 + 1) (omega (arith, stands-says ts (s .pos .0) FLOAT-NUMBER p .inside))
       (rw (closed-two m d, d) (grow ts at (fit .good) (set es m e) fs (s .pos .0 + 1) (float false ∷ []) (FIELD-EXPR ∷ []) (FIELD-EXPR ∷ []) (mid-set es m live (named FIELD-EXPR) f o (eqb g 1) (eqb g 1) (FIELD-EXPR ∷ []) (i .1) refl)
       (linked-set es fs m e (λ _. tt) (new-lands m (split false ∷ finish ∷ []) (start (named FIELD-EXPR) 0 false) (i .0) tt) (fit .good .linked) (tt, (tt, (tt, tt)))) refl (p, sym d, refl) (λ h. omega arith) refl (λ a. omega arith) (tt, (refl, (tt, tt)))))
       (s .count + 3) (set (set (set (set ev m x) (s .count) y) (s .count + 1) (splitEntry 0)) (s .count + 2) finishEntry)

@@ -22,7 +22,7 @@ use Rattle.demand.proofs.Events.{isSplit, isFinish, isStart, next, Foll
 use Rattle.demand.proofs.Pass.{own, names}
 use Rattle.demand.proofs.Chain.{ups}
 use Rattle.demand.proofs.Sound.{plain, length-tally, lands, pairs}
-use Rattle.demand.proofs.Tokens.{both}
+use Rattle.input.proofs.Laws.{both-true}
 use Rattle.demand.proofs.Seen.{view-by, seen-at, capacity-length, Decoded}
 use Rattle.demand.proofs.Entering.{view-next, bit-names, sees, sees-length, sees-at, sees-past}
 use Rattle.demand.proofs.Written.{start-own}
@@ -94,7 +94,7 @@ module _ (n : ℕ) (ev : List ℕ) (l : n ≤ length ev) where
       follows false t q r = tt
       follows true t q r =
           let w : whether (ltb (i + 1) n) (λ _. eqb (tagOf (getD ev (i + 1) 0)) FINISH) (λ _. false) ≡ true = split-next n ev i q r in
-          let z = both _ _ w in
+          let z = both-true _ _ w in
           let s : suc i < n = omega (arith, ltb-true (i + 1) n (z .0)) in
           rw (sees-at n ev l (suc i) s) (tag-finish (getD ev (suc i) 0) (rw add-one at (z .1)))
 
@@ -143,13 +143,13 @@ sound-is s ev c p d k q =
 -- sound events: the count fits, and each split has its finish
 pub sound-fits : (s : State) (ev : List ℕ) → soundOf s ev ≡ true → s .count ≤ length ev
 unfolding soundOf inRange
-sound-fits s ev q = omega (arith, leb-true (s .count) (capacityOf ev) (both _ _ (both _ _ q .0) .0), capacity-length ev)
+sound-fits s ev q = omega (arith, leb-true (s .count) (capacityOf ev) (both-true _ _ (both-true _ _ q .0) .0), capacity-length ev)
 
 pub sound-paired : (s : State) (ev : List ℕ) → soundOf s ev ≡ true → Paired (seen s ev)
 unfolding soundOf soundEvents soundAt seen
 sound-paired s ev q =
     let n : ℕ = s .count in
-    paired-from n ev (sound-fits s ev q) n 0 (omega arith) (λ j h. both _ _ (both _ _ (sound-back n n 0 ev (omega arith) (both _ _ q .1) j (omega arith) h) .1) .1)
+    paired-from n ev (sound-fits s ev q) n 0 (omega arith) (λ j h. both-true _ _ (both-true _ _ (sound-back n n 0 ev (omega arith) (both-true _ _ q .1) j (omega arith) h) .1) .1)
 
 -- the steps are counted right
 steps-start : (c : Bool) (x : ℕ) → eqb (tagOf x) START ≡ true → stepsAt c x ≡ ups (view x) + length (own c (view x))

@@ -19,7 +19,8 @@ use Rattle.event.specs.declared.State.{State}
 use Rattle.parser.specs.Calls.{roomFor, isOpen, isClosed}
 use Rattle.parser.specs.Public.{lookedOf}
 use Rattle.demand.specs.Demand.{seen}
-use Rattle.demand.proofs.Tokens.{both, lengths-fine}
+use Rattle.input.proofs.Laws.{both-true}
+use Rattle.demand.proofs.Tokens.{lengths-fine}
 use Rattle.event.proofs.Laws.{live-view, named-view}
 
 -- an entry's view, by its tag
@@ -69,11 +70,11 @@ count-seen s ev h = length-take-le (s .count) (map view ev) (omega (arith, lengt
 -- an open marker and a closed one
 pub open-seen : (s : State) (m : ℕ) (ev : List ℕ) → isOpen s m ev ≡ true → (m < s .count) × (getD (seen s ev) m finish ≡ start live (offsetOf (getD ev m 0)) (eqb (flagOf (getD ev m 0)) 1))
 unfolding seen isOpen
-open-seen s m ev q = let t = both _ _ q in let h = ltb-true m (s .count) (t .0) in (h, seen-at (s .count) ev m h ∙ live-view (getD ev m 0) (t .1))
+open-seen s m ev q = let t = both-true _ _ q in let h = ltb-true m (s .count) (t .0) in (h, seen-at (s .count) ev m h ∙ live-view (getD ev m 0) (t .1))
 
 pub closed-seen : (s : State) (m : ℕ) (ev : List ℕ) → isClosed s m ev ≡ true → (m < s .count) × (getD (seen s ev) m finish ≡ start (named (nodeOf (getD ev m 0))) (offsetOf (getD ev m 0)) (eqb (flagOf (getD ev m 0)) 1))
 unfolding seen isClosed
-closed-seen s m ev q = let t = both _ _ q in let h = ltb-true m (s .count) (t .0) in (h, seen-at (s .count) ev m h ∙ named-view (getD ev m 0) (t .1))
+closed-seen s m ev q = let t = both-true _ _ q in let h = ltb-true m (s .count) (t .0) in (h, seen-at (s .count) ev m h ∙ named-view (getD ev m 0) (t .1))
 
 -- room: the list is full at its length or at its limit
 pub capacity-length : (ev : List ℕ) → capacityOf ev ≤ length ev

@@ -1,6 +1,6 @@
 -- Tokens of the lent list: a kind that is present is its raw parts where it stands, inside the list, and the checks of a call leave only fit bytes at the position. Assumes nothing.
 use mathlib.Core.Path.{_≡_, refl, _∙_}
-use mathlib.Core.Bool.{Bool, true, false, false≢true}
+use mathlib.Core.Bool.{Bool, true}
 use mathlib.Core.List.{List, [], _∷_, _++_, append-assoc, append-nil}
 use Prim.Native.Nat.{ℕ, zero, suc, _+_, _-_, _≤_, _<_}
 use native.Mathlib.Omega.{arith}
@@ -8,45 +8,36 @@ use native.Mathlib.Numerals.{add-one}
 use lib.ListN.{length, getD, take, drop}
 use lib.Seq.{drop-cons, take-add}
 use lib.Dec.{ltb, leb, eqb}
-use borrow.Author.Tests.{ltb-true, ltb-false, leb-true, eqb-true, eq-eqb, lt-ltb, lt-leb}
+use borrow.Author.Tests.{ltb-false, leb-true, eq-eqb, lt-ltb}
 use Rattle.base.specs.Base.{whether}
 use Rattle.base.proofs.Cases.{whether-by, bound-by}
-use Rattle.input.specs.SyntaxKind.{QUESTION, FLOAT-NUMBER, MINUSEQ, SHREQ, PATH-TYPE, EXPECTED-COMMA}
+use Rattle.input.specs.SyntaxKind.{FLOAT-NUMBER, SHREQ, PATH-TYPE, EXPECTED-COMMA}
 use Rattle.input.specs.Input.{Tokens, tokenLimit, widthLimit, kindAt, stands, isGlued, rowOf, rowParts, partsOf, widthOf, follow, present, isRaw, isKind, isNode, isCode, firstOff, lengthsOf, bytesOf, ahead}
 use Rattle.input.specs.declared.Checked.{Checked}
 use Rattle.input.specs.declared.Checked.the-variants.{Fine}
+use Rattle.input.proofs.Laws.{both-true, within-bounds, raw-bounds, raw-not-glued, parts-raw, stands-says}
 use Rattle.demand.specs.Lists.{gather}
 use Rattle.demand.specs.Runs.{Tok, tok, float}
 use Rattle.demand.specs.Demand.{Covers, rawsOf}
-
--- two tests that both hold
-pub both : (b : Bool) (f : Unit {0} → Bool) → whether b f (λ _. false) ≡ true → (b ≡ true) × (f tt ≡ true)
-unfolding whether
-both true f q = (refl, q)
-both false f q = absurd (false≢true q)
 
 -- so many raw tokens from p on are l
 abbrev pub Stand : Tokens → ℕ → List ℕ → Type 0
 Stand ts p l = (p + length l ≤ length (ts .kinds)) × (take (length l) (drop p (ts .kinds)) ≡ l)
 
-pub stands-at : (ts : Tokens) (p k : ℕ) → stands ts p k ≡ true → (p < length (ts .kinds)) × (getD (ts .kinds) p 0 ≡ k)
-unfolding stands
-stands-at ts p k q = let b = both _ _ q in (ltb-true _ _ (b .0), eqb-true _ _ (b .1))
-
 stand-cons : (ts : Tokens) (p k : ℕ) (l : List ℕ) → stands ts p k ≡ true → (p + 1 + length l ≤ length (ts .kinds)) × (take (length l) (drop (p + 1) (ts .kinds)) ≡ l) → Stand ts p (k ∷ l)
 stand-cons ts p k l q s =
-    let h = stands-at ts p k q in
-    (omega arith, rw (drop-cons (ts .kinds) p 0 (h .0), h .1, ← add-one p, s .1))
+    let h = stands-says ts p k q in
+    (omega (arith, h .inside), rw (drop-cons (ts .kinds) p 0 (h .inside), h .same, ← add-one p, s .1))
 
 pub stand-one : (ts : Tokens) (p k : ℕ) → stands ts p k ≡ true → Stand ts p (k ∷ [])
-stand-one ts p k q = stand-cons ts p k [] q (omega (arith, stands-at ts p k q), refl)
+stand-one ts p k q = stand-cons ts p k [] q (omega (arith, stands-says ts p k q .inside), refl)
 
 follow-stand : (ts : Tokens) (p k : ℕ) (l : List ℕ) → follow ts p (k ∷ l) ≡ true → Stand ts p (k ∷ l)
 unfolding follow
 follow-stand ts p k [] q = stand-one ts p k q
 follow-stand ts p k (a ∷ l) q =
-    let b = both _ _ q in
-    stand-cons ts p k (a ∷ l) (b .0) (follow-stand ts (p + 1) a l (both _ _ (b .1) .1))
+    let b = both-true _ _ q in
+    stand-cons ts p k (a ∷ l) (b .0) (follow-stand ts (p + 1) a l (both-true _ _ (b .1) .1))
 
 -- the raw parts of a kind that is present
 pub present-stand : (ts : Tokens) (p k : ℕ) → present ts p k ≡ true → Stand ts p (partsOf k)
@@ -56,14 +47,6 @@ present-stand ts p k =
     whether-by P (isGlued k) _ _
     (λ _. whether-by P (eqb (rowOf k .width .0) 2) _ _ (λ _ q. follow-stand ts p _ _ q) (λ _ q. follow-stand ts p _ _ q))
     (λ _ q. follow-stand ts p _ _ q)
-
-pub width-small : (k : ℕ) → widthOf k < 4
-unfolding widthOf partsOf rowParts
-width-small k =
-    let P : List ℕ → Type 0 = λ l. length l < 4 in
-    whether-by P (isGlued k) _ _
-    (λ _. whether-by P (eqb (rowOf k .width .0) 2) _ _ (λ _. omega arith) (λ _. omega arith))
-    (λ _. omega arith)
 
 -- tokens that stand one after the other: they end inside the list, and their raw kinds are those of the list
 raws-on : (l : List ℕ) (p : ℕ) (xs ys : List ℕ) → take (length xs) (drop p l) ≡ xs → take p l ++ (xs ++ ys) ≡ take (p + length xs) l ++ ys
@@ -88,33 +71,21 @@ covers-append ts p q s (tok k w ∷ l) m c d = (c .0, c .1, covers-append ts (p 
 covers-append ts p q s (float b ∷ l) m c d = (c .0, c .1, covers-append ts (p + 1) q s l m (c .2) d)
 
 -- what fits is small
-between : (a b k : ℕ) → whether (leb a k) (λ _. leb k b) (λ _. false) ≡ true → (a ≤ k) × (k ≤ b)
-between a b k q = let t = both _ _ q in (leb-true _ _ (t .0), leb-true _ _ (t .1))
-
-pub raw-small : (k : ℕ) → isRaw k ≡ true → k ≤ QUESTION
-unfolding isRaw
-raw-small k q = between _ _ k q .1
-
 pub node-small : (k : ℕ) → isNode k ≡ true → k ≤ PATH-TYPE
 unfolding isNode
-node-small k q = between _ _ k q .1
+node-small k q = within-bounds _ _ k q .1
 
 pub code-small : (k : ℕ) → isCode k ≡ true → k ≤ EXPECTED-COMMA
 unfolding isCode
-code-small k q = between _ _ k q .1
+code-small k q = within-bounds _ _ k q .1
 
 pub kind-small : (k : ℕ) → isKind k ≡ true → k ≤ SHREQ
 unfolding isKind isGlued
-kind-small k = whether-by (λ b. b ≡ true → k ≤ SHREQ) (isRaw k) _ _ (λ r _. omega (arith, raw-small k r)) (λ _ q. between _ _ k q .1)
-
--- a raw kind is its own part
-raw-parts : (k : ℕ) → isRaw k ≡ true → partsOf k ≡ k ∷ []
-unfolding partsOf isGlued whether
-raw-parts k r = let t : leb MINUSEQ k ≡ false = lt-leb MINUSEQ k (omega (arith, raw-small k r)) in rw t
+kind-small k = whether-by (λ b. b ≡ true → k ≤ SHREQ) (isRaw k) _ _ (λ r _. omega (arith, raw-bounds k r .1)) (λ _ q. within-bounds _ _ k q .1)
 
 pub raw-present : (ts : Tokens) (p : ℕ) → p < length (ts .kinds) → isRaw (kindAt ts p) ≡ true → (present ts p (kindAt ts p) ≡ true) × (1 ≡ widthOf (kindAt ts p))
 unfolding present widthOf follow stands whether
-raw-present ts p h r = rw (raw-parts (kindAt ts p) r, lt-ltb p (length (ts .kinds)) h) (eq-eqb (kindAt ts p) (kindAt ts p) refl, refl)
+raw-present ts p h r = rw (parts-raw (kindAt ts p) (raw-not-glued (kindAt ts p) r), lt-ltb p (length (ts .kinds)) h) (eq-eqb (kindAt ts p) (kindAt ts p) refl, refl)
 
 -- the checks of a call
 pub lengths-fine : (ts : Tokens) → lengthsOf ts ≡ Fine → length (ts .kinds) ≤ tokenLimit

@@ -2,14 +2,13 @@
 use mathlib.Core.Path.{_≡_, refl, sym, ap, _∙_}
 use mathlib.Core.List.{List}
 use mathlib.Core.Bool.{Bool, true, false, false≢true}
-use Prim.Native.Nat.{ℕ, zero, suc, _+_, _-_, _*_, _/_, _%_, _≤_, _<_}
+use Prim.Native.Nat.{ℕ, zero, suc, _+_, _-_, _≤_, _<_}
 use native.Mathlib.Omega.{arith}
 use lib.ListN.{length}
 use lib.Dec.{ltb, leb, eqb}
-use borrow.Author.Tests.{lt-ltb, le-ltb, le-leb, lt-leb, leb-true, ltb-true, ltb-false, eqb-true, eqb-false, eq-eqb, ne-eqb}
+use borrow.Author.Tests.{lt-ltb, le-leb, lt-leb, leb-true, ltb-true, ltb-false, eqb-true, eqb-false, eq-eqb, ne-eqb}
 use Rattle.base.specs.Base.{whether}
 use Rattle.base.proofs.Cases.{whether-by}
-use Rattle.input.specs.Input.{tokenLimit}
 use Rattle.event.specs.declared.State.{State}
 use Rattle.event.specs.Event.{Status, live, spent, named, Event, start, finish, token, split, error, START, FINISH, TOKEN-TAG, SPLIT-TAG, ERROR-TAG, LIVE, SPENT, NAMED, tagOf, rankOf, flagOf, nodeOf, offsetOf, entry, statusOf, view, flagBy, entryOf, decodes, startEntry, precedingEntry, fieldEntry, finishEntry, tokenEntry, splitEntry, errorEntry, namedEntry, spentEntry, extendedEntry, parentedEntry, isLive, isNamed, eventLimit, capacityOf, inRange}
 
@@ -309,11 +308,6 @@ module _ {cap room : ℕ} (count k : ℕ) (p : room ≡ cap) where
 
   pub roomy : count ≤ room → k ≤ room - count → true ≡ leb (count + k) cap
   roomy h l = sym (le-leb (count + k) cap (omega arith))
-
--- the limits in numbers
-pub limit-is : eventLimit ≡ 65552
-unfolding eventLimit tokenLimit
-limit-is = refl
 
 -- a count in range is within the list and within the limit
 pub capacity-within : (ev : List ℕ) → (capacityOf ev ≤ length ev) × (capacityOf ev ≤ eventLimit)

@@ -17,7 +17,7 @@ use Rattle.parser.specs.Prog.{give, refuse, complete, then}
 use Rattle.parser.specs.declared.Marker.{Marker}
 use Rattle.parser.specs.declared.CompletedMarker.{CompletedMarker}
 use Rattle.parser.proofs.Moves.{present-within}
-use Rattle.grammar.specs.Atom.{bump, begin, lead, expect, closing, leaf, beginError, errAndBump, errRecover, segment, firstPath, qualified, turning, pathTurn, pathRest, path, noMacro, plainPath, pathNode, afterType, pathType, castType, castExpr}
+use Rattle.atoms.specs.Atom.{bump, begin, lead, expect, closing, leaf, beginError, errAndBump, errRecover, segment, firstPath, qualified, turning, pathTurn, pathRest, path, noMacro, plainPath, pathNode, afterType, pathType, castType, castExpr}
 use Rattle.facts.proofs.Does.{World, size, Post, Does, On, Here, Live, Shut, Fit, Room, Moves, Turned, on-on, here, still, shut-lower, does-give, does-refuse, does-look, does-bound, does-if, does-then, does-weaken, does-turns, clash}
 use Rattle.facts.proofs.Calls.{does-start, does-complete, does-precede, does-eat, does-bump-any, does-error}
 use Rattle.facts.proofs.Present.{at-hand, raw-kind, glued-kind}

@@ -6,13 +6,14 @@ use Prim.Native.Nat.{ℕ, zero, suc, _+_, _-_, _≤_, _<_}
 use native.Mathlib.Omega.{arith}
 use lib.ListN.{length, getD}
 use lib.Dec.{ltb, leb, eqb}
-use borrow.Author.Tests.{ltb-true, ltb-false, leb-true}
+use borrow.Author.Tests.{ltb-true, ltb-false}
 use Rattle.base.specs.Base.{bound}
 use Rattle.base.proofs.Cases.{whether-by}
 use Rattle.input.specs.Input.{Tokens, tokenLimit, widthLimit, isRaw, isJoint, firstOff, lengthsOf, bytesOf, onChecked, tokensOf, ahead}
 use Rattle.input.specs.declared.Refusal.{Refusal}
 use Rattle.input.specs.declared.Checked.{Checked}
 use Rattle.input.specs.declared.Checked.the-variants.{Fine, Refused}
+use Rattle.demand.proofs.Tokens.{lengths-fine as few-tokens}
 use Rattle.facts.proofs.Does.{clash}
 
 pub no-both : {r : Refusal} → Fine ≡ Refused r → ⊥
@@ -89,12 +90,8 @@ module _ (ts : Tokens) (fine : tokensOf ts ≡ Fine) where
       (good-stretch isRaw (ts .kinds) at (ahead ts at) (λ i x y. stretch-good isRaw (ts .kinds) 0 (length (ts .kinds)) (b .0) i (omega arith) (omega arith)))
       (good-stretch isJoint (ts .joints) at (ahead ts at) (λ i x y. stretch-good isJoint (ts .joints) 0 (length (ts .kinds)) (b .1) i (omega arith) (omega arith)))
 
-  pub tokens-few : length (ts .kinds) ≤ 4096
-  unfolding lengthsOf tokenLimit
-  tokens-few =
-      whether-by (λ x. x ≡ Fine → length (ts .kinds) ≤ 4096) (eqb (length (ts .kinds)) (length (ts .joints))) _ _
-      (λ _. whether-by (λ x. x ≡ Fine → length (ts .kinds) ≤ 4096) (leb (length (ts .kinds)) tokenLimit) _ _ (λ p _. leb-true (length (ts .kinds)) 4096 p) (λ _ q. absurd (no-both (sym q))))
-      (λ _ q. absurd (no-both (sym q))) lengths-fine
+  pub tokens-few : length (ts .kinds) ≤ tokenLimit
+  tokens-few = few-tokens ts lengths-fine
 
 -- the numbers of the checks
 abbrev pub By1-3 : Checked → Type 0

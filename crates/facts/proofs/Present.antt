@@ -11,11 +11,11 @@ use Rattle.base.specs.Base.{bound}
 use Rattle.base.proofs.Cases.{whether-by}
 use Rattle.input.specs.SyntaxKind.{IDENT, INT-NUMBER, QUESTION, AS-KW, AMP, PIPE, PLUS, MINUS, STAR, SLASH, PERCENT, CARET, BANG, EQ, L-ANGLE, R-ANGLE, MINUSEQ, NEQ, DOT2, STAREQ, SLASHEQ, AMP2, AMPEQ, PERCENTEQ, CARETEQ, PLUSEQ, SHL, LTEQ, EQ2, GTEQ, SHR, PIPEEQ, PIPE2, DOT2EQ, SHLEQ, SHREQ}
 use Rattle.input.specs.Input.{Tokens, kindAt, stands, isGlued, isRaw, isKind, partsOf, widthOf, follow, present}
-use Rattle.grammar.specs.declared.Side.{Side}
-use Rattle.grammar.specs.declared.Side.the-variants.{Left, Right}
-use Rattle.grammar.specs.declared.Op.{Op}
-use Rattle.grammar.specs.TokenSet.{among, firstTokens, isFirst, isPrefix, isFieldName}
-use Rattle.grammar.specs.Strength.{leftOp, assignOp, notAnOp, orOp, pipeOp, rAngleOp, lAngleOp, ampOp, eqOp, dotOp, bangOp, arithOp, opOf, currentOp, onSide, rightOf}
+use Rattle.operators.specs.declared.Side.{Side}
+use Rattle.operators.specs.declared.Side.the-variants.{Left, Right}
+use Rattle.operators.specs.declared.Op.{Op}
+use Rattle.operators.specs.TokenSet.{among, firstTokens, isFirst, isPrefix, isFieldName}
+use Rattle.operators.specs.Strength.{leftOp, assignOp, notAnOp, orOp, pipeOp, rAngleOp, lAngleOp, ampOp, eqOp, dotOp, bangOp, arithOp, opOf, currentOp, onSide, rightOf}
 use Rattle.facts.proofs.Does.{clash}
 
 -- raw kinds and glued ones may be taken, and a raw kind is its own part

@@ -15,9 +15,9 @@ use Rattle.parser.specs.Prog.{Prog, give, complete, Perhaps, some, none}
 use Rattle.parser.specs.declared.Marker.{Marker}
 use Rattle.parser.specs.declared.CompletedMarker.{CompletedMarker}
 use Rattle.parser.proofs.Moves.{present-within}
-use Rattle.grammar.specs.declared.Op.{Op}
-use Rattle.grammar.specs.Strength.{currentOp}
-use Rattle.grammar.specs.Atom.{lead, closing, turning}
+use Rattle.operators.specs.declared.Op.{Op}
+use Rattle.operators.specs.Strength.{currentOp}
+use Rattle.atoms.specs.Atom.{lead, closing, turning}
 use Rattle.grammar.specs.Expressions.{Rule, yields, given, givenUp, loneDot, anyway, beginRef, parenTail, parenBody, parenExpr, plainAtom, atomExpr, atomPostfix, refExpr, prefixExpr, leadingRange, rangeOrAtom, lhs, binExpr, rangeExpr, operatorTurn, operators, extended, expression, noExpression, exprBp, extendTo}
 use Rattle.facts.proofs.Does.{World, size, Post, Does, On, Here, Live, Shut, Room, Turned, on-on, here, still, shut-lower, does-give, does-refuse, does-look, does-bound, does-if, does-then, does-weaken, does-turns}
 use Rattle.facts.proofs.Calls.{does-start, does-complete, does-abandon, does-extend, does-eat}

@@ -3,11 +3,11 @@ use mathlib.Core.Path.{_≡_, refl, sym, subst, ap, _∙_}
 use mathlib.Core.List.{List, [], _∷_, _++_, map}
 use mathlib.Core.Bool.{Bool, true, false}
 use mathlib.Core.Logic.{_⊎_, inl, inr, ⊎-elim}
-use Prim.Native.Nat.{ℕ, _+_, _-_, _*_, _/_, _≤_, _<_}
+use Prim.Native.Nat.{ℕ, _+_, _-_, _*_, _/_, _≤_}
 use native.Mathlib.Omega.{arith}
 use lib.ListN.{length, take}
-use lib.Dec.{ltb, leb, eqb}
-use borrow.Author.Tests.{ltb-false, leb-true, leb-false, le-ltb, ne-eqb}
+use lib.Dec.{ltb, eqb}
+use borrow.Author.Tests.{ltb-false, le-ltb, ne-eqb}
 use Rattle.base.specs.Base.{whether}
 use Rattle.base.proofs.Cases.{whether-by}
 use Rattle.input.specs.SyntaxKind.{EVENTS-FULL, TOO-DEEP, OUTSIDE-CUT, TOKEN, LEAVE, FLOAT-SPLIT, FAULT, WIDTH-STEP, ENDS-IN-DOT}
@@ -21,6 +21,7 @@ use Rattle.parser.specs.declared.CompletedMarker.{CompletedMarker}
 use Rattle.parser.specs.Prog.{fine, bad, Ran, run, Perhaps, some, none}
 use Rattle.parser.proofs.Moves.{ReplyBy, Kept, onward}
 use Rattle.grammar.specs.Expressions.{exprBp}
+use Rattle.grammar.proofs.Moves.{Takes, takes-a-token as takes-one}
 use Rattle.reader.specs.Reader.{Answer, onRead, topOf, parseOf}
 use Rattle.reader.specs.declared.Parsed.{Parsed}
 use Rattle.reader.specs.declared.Parsed.the-variants as parsed
@@ -32,7 +33,6 @@ use Rattle.facts.specs.Facts.{TakesAToken, NeverGoesBack, InRange, Refus
 use Rattle.facts.proofs.Does.{World, Allowed}
 use Rattle.facts.proofs.Postfix.{Read}
 use Rattle.facts.proofs.Reading.{reading}
-use Rattle.facts.proofs.Beyond.{Nothing, nothing-beyond}
 use Rattle.facts.proofs.Checks.{By1-3, tokens-by, tokens-few}
 use Rattle.facts.proofs.Ends.{Right, Ends, reader-ends}
 
@@ -54,15 +54,7 @@ module _ (ts : Tokens) (depth b : ℕ) (lo : 1 ≤ b) (s : State) (ev : List ℕ
   replied x q = subst (λ (y : Ran (Perhaps CompletedMarker)). ReplyBy (Read (far ts s ev) ev s) (λ r _. Allowed (far ts s ev) r) y) q read-on
 
 pub takes-a-token : TakesAToken
-takes-a-token ts depth b s ev lo s1 m e q = in-or-out (leb (s .pos .0) (length (ts .kinds))) refl (leb (s .count) (capacityOf ev)) refl
-  where
-    beyond : (s .pos .0 ≤ length (ts .kinds) → s .count ≤ capacityOf ev → ⊥) → ⊥
-    beyond h = let z : some m ≡ none = subst Nothing q (nothing-beyond ts depth b s ev h) in let y : _≡_ {A = ℕ} 0 1 = cc in omega arith
-
-    in-or-out : (x : Bool) → leb (s .pos .0) (length (ts .kinds)) ≡ x → (y : Bool) → leb (s .count) (capacityOf ev) ≡ y → s .pos .0 < s1 .pos .0
-    in-or-out true x true y = omega (arith, replied ts depth b lo s ev (leb-true _ _ y, leb-true _ _ x) (fine s1 (some m), e) q .got .0)
-    in-or-out false x y z = absurd (beyond (λ h _. omega (arith, leb-false (s .pos .0) (length (ts .kinds)) x)))
-    in-or-out true x false y = absurd (beyond (λ _ h. omega (arith, leb-false (s .count) (capacityOf ev) y)))
+takes-a-token ts depth b s ev s1 m e q = subst (λ (r : Ran (Perhaps CompletedMarker)). Takes ts (s .pos .0) r) q (takes-one depth ts b s ev) .0
 
 pub never-goes-back : NeverGoesBack
 never-goes-back ts depth b s ev s1 a e q =

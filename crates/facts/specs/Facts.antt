@@ -21,11 +21,11 @@ use Rattle.demand.specs.Runs.{Call, runOf}
 use Rattle.demand.specs.Steps.{codeOf, stepFrom}
 use Rattle.demand.specs.Demand.{Demand}
 
--- Readings at strength b, which is 1 at least, where so many may still be opened.
+-- Readings at strength b, where so many may still be opened.
 
 -- an expression is a token at least
 abbrev pub TakesAToken : Type 0
-TakesAToken = (ts : Tokens) (depth b : ℕ) (s : State) (ev : List ℕ) → 1 ≤ b → (s1 : State) (m : CompletedMarker) (e : List ℕ) → run ts (exprBp depth ts b) s ev ≡ (fine s1 (some m), e) → s .pos .0 < s1 .pos .0
+TakesAToken = (ts : Tokens) (depth b : ℕ) (s : State) (ev : List ℕ) (s1 : State) (m : CompletedMarker) (e : List ℕ) → run ts (exprBp depth ts b) s ev ≡ (fine s1 (some m), e) → s .pos .0 < s1 .pos .0
 
 -- with or without one no token is given back
 abbrev pub NeverGoesBack : Type 0

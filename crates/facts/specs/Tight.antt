@@ -10,9 +10,9 @@ use Rattle.event.specs.Event.{statusOf, view, decodes, isLive, isNamed, eventLi
 use Rattle.parser.specs.Calls.{roomFor, isOpen, isClosed, startOf, completeOf, isLast, abandonOf, precedeOf, extendOf, eatOf, bumpAnyOf, errorOf, splitDotOf, splitTwoOf, splitOf}
 use Rattle.parser.specs.Prog.{then, turns, onOpened, onClosed, onMoved, onTaken, onParted, run}
 use Rattle.process.specs.Process.{forwardOf, landsAt, pairedAt, soundAt, soundTurn, soundEvents, soundOf, hasName, stepsAt, countTurn, countOf, chainTurn, chainOf, visited, enterTurn, enterOf, stepOf, processTurn, writeOf, processOf}
-use Rattle.grammar.specs.TokenSet.{isFirst, isClosing, endsArguments, isPrefix, isFieldName, outsideAtom, outsideType}
-use Rattle.grammar.specs.Strength.{orOp, pipeOp, rAngleOp, lAngleOp, ampOp, eqOp, dotOp, bangOp, arithOp, opOf, currentOp, onSide, rightOf, isRange, operandFollows}
-use Rattle.grammar.specs.Atom.{bump, begin, lead, expect, closing, leaf, beginError, errAndBump, errRecover, segment, firstPath, qualified, turning, pathTurn, pathRest, path, noMacro, plainPath, pathNode, afterType, pathType, castType, castExpr}
+use Rattle.operators.specs.TokenSet.{isFirst, isClosing, endsArguments, isPrefix, isFieldName, outsideAtom, outsideType}
+use Rattle.operators.specs.Strength.{orOp, pipeOp, rAngleOp, lAngleOp, ampOp, eqOp, dotOp, bangOp, arithOp, opOf, currentOp, onSide, rightOf, isRange, operandFollows}
+use Rattle.atoms.specs.Atom.{bump, begin, lead, expect, closing, leaf, beginError, errAndBump, errRecover, segment, firstPath, qualified, turning, pathTurn, pathRest, path, noMacro, plainPath, pathNode, afterType, pathType, castType, castExpr}
 use Rattle.grammar.specs.Expressions.{yields, given, givenUp, loneDot, anyway, loneComma, noComma, afterArgument, argument, arguments, argList, callExpr, indexExpr, tryExpr, dotted, awaitExpr, noGenerics, methodName, methodHead, onward, floatField, namedField, noField, field, fieldExpr, beginRef, parenTail, isMethod, isDots, nameAt, methodCallExpr, postfixDotExpr, postfixTurn, postfixExpr, parenBody, parenExpr, atomExpr, atomPostfix, refExpr, prefixExpr, leadingRange, rangeOrAtom, lhs, binExpr, rangeExpr, operatorTurn, operators, extended, expression, noExpression, exprBp, plainAtom, extendTo}
 use Rattle.reader.specs.Reader.{cleared, refusing, onProcessed, onRead, topOf, parseOf}
 use Rattle.reader.specs.declared.Parsed.{Parsed}

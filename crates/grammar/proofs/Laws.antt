@@ -1,95 +1,39 @@
 -- What the grammar's own proofs use, as laws for `search`: for each case of an answer enum what reply it stands for, for a conversion of one enum into another, for `let .. else`, for an early return, for the depth. Each is a step of congruence. Assumes nothing.
 use mathlib.Core.Path.{_≡_, refl, sym, ap, subst, _∙_}
 use mathlib.Core.List.{List, [], _∷_}
-use mathlib.Core.Bool.{Bool, true, false, not}
+use mathlib.Core.Bool.{Bool}
 use mathlib.Core.Logic.{⊎-elim}
-use Prim.Native.Nat.{ℕ, zero, suc, _+_, _-_, _≤_}
+use Prim.Native.Nat.{ℕ, zero, suc, _-_}
 use native.Mathlib.Numerals.{sub-one}
-use lib.ListN.{length}
 use types.Run.{OneOf}
 use denote.Enum.Declared.{tagOf}
-use borrow.Author.Tests.{eqb-false, not-true, not-false}
+use borrow.Author.Tests.{eqb-false}
 use Rattle.base.specs.Base.{whether, bound, Next, again, done}
-use Rattle.input.specs.SyntaxKind.{TOO-DEEP, COLON2}
-use Rattle.input.specs.Input.{Tokens, lent, refusal, kindAt, present, widthOf, partsOf, isGlued, rowParts, rowOf, gluedTable}
-use Rattle.input.proofs.Laws.{present-inside}
+use Rattle.input.specs.SyntaxKind.{TOO-DEEP}
+use Rattle.input.specs.Input.{Tokens, refusal, kindAt}
 use Rattle.input.specs.declared.Refusal.{Refusal}
 use Rattle.event.specs.declared.State.{State}
 use Rattle.parser.specs.declared.Marker.{Marker}
 use Rattle.parser.specs.declared.CompletedMarker.{CompletedMarker}
-use Rattle.parser.specs.declared.Opened.{Opened}
-use Rattle.parser.specs.declared.Opened.the-variants as opened
 use Rattle.parser.specs.declared.Closed.{Closed}
 use Rattle.parser.specs.declared.Closed.the-variants as closed
-use Rattle.parser.specs.declared.Moved.{Moved}
 use Rattle.parser.specs.declared.Moved.the-variants as moved
-use Rattle.parser.specs.Calls.{completeOf, precedeOf, extendOf, errorOf}
-use Rattle.parser.specs.Prog.{Prog, give, refuse, look, start, complete, precede, extend, error, then, turns, Reply, fine, bad, Ran, run, onOpened, onClosed, onMoved, Perhaps, some, none}
-use Rattle.parser.proofs.Laws.{steps, then-fine, then-bad, run-yes, run-no, asDone}
+use Rattle.parser.specs.Calls.{completeOf, extendOf}
+use Rattle.parser.specs.Prog.{Prog, give, look, start, complete, then, turns, fine, bad, Ran, run, onClosed, Perhaps, some, none}
+use Rattle.parser.proofs.Laws.{then-fine, then-bad, asDone}
 use Rattle.grammar.specs.declared.Reading.{Reading}
 use Rattle.grammar.specs.declared.Reading.the-variants as reading
-use Rattle.grammar.specs.declared.Turn.{Turn}
-use Rattle.grammar.specs.declared.Turn.the-variants as turn
+use Rattle.atoms.specs.declared.Turn.{Turn}
 use Rattle.grammar.specs.declared.Postfix.{Postfix}
 use Rattle.grammar.specs.declared.Postfix.the-variants as postfix
 use Rattle.grammar.specs.declared.Args.{Args}
 use Rattle.grammar.specs.declared.Args.the-variants as args
-use Rattle.grammar.specs.Views.{openedReply, closedReply, movedReply, readingReply, turnReply, postfixReply, argsReply, endedOf, readingOf, turnOf, lastOf, postfixOf, argsEnd, missingOf}
-use Rattle.grammar.specs.TokenSet.{isFirst}
-use Rattle.grammar.specs.Atom.{turning}
+use Rattle.atoms.specs.Views.{closedReply, movedReply, turnReply}
+use Rattle.grammar.specs.Views.{readingReply, postfixReply, argsReply, readingOf, lastOf, postfixOf, argsEnd, missingOf}
+use Rattle.operators.specs.TokenSet.{isFirst}
+use Rattle.atoms.proofs.Laws.{atoms, turnings}
 use Rattle.grammar.specs.Expressions.{Rule, yields, given, givenUp, extendTo, anyway, afterArgument, onward, expression, noExpression, exprBp}
 use Rattle.grammar.proofs.Reading.{the-type}
-
--- Opened
-pub opened-open : {x : Opened} {s : State} {m : Marker} → x ≡ opened.Open s m → openedReply x ≡ fine s m
-unfolding openedReply
-opened-open q = ap openedReply q
-
-pub is-opened-open : (s : State) (m : Marker) (ev : List ℕ) → _≡_ {A = Ran (Marker)} (openedReply (opened.Open s m), ev) (fine s m, ev)
-unfolding openedReply
-is-opened-open s m ev = refl
-
-pub opened-refused : {x : Opened} {r : Refusal} → x ≡ opened.Refused r → openedReply x ≡ bad r
-unfolding openedReply
-opened-refused q = ap openedReply q
-
-pub is-opened-refused : (r : Refusal) (ev : List ℕ) → _≡_ {A = Ran (Marker)} (openedReply (opened.Refused r), ev) (bad r, ev)
-unfolding openedReply
-is-opened-refused r ev = refl
-
--- Closed
-pub closed-done : {x : Closed} {s : State} {m : CompletedMarker} → x ≡ closed.Done s m → closedReply x ≡ fine s m
-unfolding closedReply
-closed-done q = ap closedReply q
-
-pub is-closed-done : (s : State) (m : CompletedMarker) (ev : List ℕ) → _≡_ {A = Ran (CompletedMarker)} (closedReply (closed.Done s m), ev) (fine s m, ev)
-unfolding closedReply
-is-closed-done s m ev = refl
-
-pub closed-refused : {x : Closed} {r : Refusal} → x ≡ closed.Refused r → closedReply x ≡ bad r
-unfolding closedReply
-closed-refused q = ap closedReply q
-
-pub is-closed-refused : (r : Refusal) (ev : List ℕ) → _≡_ {A = Ran (CompletedMarker)} (closedReply (closed.Refused r), ev) (bad r, ev)
-unfolding closedReply
-is-closed-refused r ev = refl
-
--- Moved
-pub moved-on : {x : Moved} {s : State} → x ≡ moved.On s → movedReply x ≡ fine s tt
-unfolding movedReply
-moved-on q = ap movedReply q
-
-pub is-moved-on : (s : State) (ev : List ℕ) → _≡_ {A = Ran (Unit {0})} (movedReply (moved.On s), ev) (fine s tt, ev)
-unfolding movedReply
-is-moved-on s ev = refl
-
-pub moved-refused : {x : Moved} {r : Refusal} → x ≡ moved.Refused r → movedReply x ≡ bad r
-unfolding movedReply
-moved-refused q = ap movedReply q
-
-pub is-moved-refused : (r : Refusal) (ev : List ℕ) → _≡_ {A = Ran (Unit {0})} (movedReply (moved.Refused r), ev) (bad r, ev)
-unfolding movedReply
-is-moved-refused r ev = refl
 
 -- Reading
 pub reading-expr : {x : Reading} {s : State} {m : CompletedMarker} → x ≡ reading.Expr s m → readingReply x ≡ fine s (some m)
@@ -115,31 +59,6 @@ reading-refused q = ap readingReply q
 pub is-reading-refused : (r : Refusal) (ev : List ℕ) → _≡_ {A = Ran (Perhaps CompletedMarker)} (readingReply (reading.Refused r), ev) (bad r, ev)
 unfolding readingReply
 is-reading-refused r ev = refl
-
--- Turn
-pub turn-again : {x : Turn} {s : State} {m : CompletedMarker} → x ≡ turn.Again s m → turnReply x ≡ fine s (again m)
-unfolding turnReply
-turn-again q = ap turnReply q
-
-pub is-turn-again : (s : State) (m : CompletedMarker) (ev : List ℕ) → _≡_ {A = Ran (Next CompletedMarker CompletedMarker)} (turnReply (turn.Again s m), ev) (fine s (again m), ev)
-unfolding turnReply
-is-turn-again s m ev = refl
-
-pub turn-done : {x : Turn} {s : State} {m : CompletedMarker} → x ≡ turn.Done s m → turnReply x ≡ fine s (done m)
-unfolding turnReply
-turn-done q = ap turnReply q
-
-pub is-turn-done : (s : State) (m : CompletedMarker) (ev : List ℕ) → _≡_ {A = Ran (Next CompletedMarker CompletedMarker)} (turnReply (turn.Done s m), ev) (fine s (done m), ev)
-unfolding turnReply
-is-turn-done s m ev = refl
-
-pub turn-refused : {x : Turn} {r : Refusal} → x ≡ turn.Refused r → turnReply x ≡ bad r
-unfolding turnReply
-turn-refused q = ap turnReply q
-
-pub is-turn-refused : (r : Refusal) (ev : List ℕ) → _≡_ {A = Ran (Next CompletedMarker CompletedMarker)} (turnReply (turn.Refused r), ev) (bad r, ev)
-unfolding turnReply
-is-turn-refused r ev = refl
 
 -- Postfix
 pub postfix-again : {x : Postfix} {s : State} {m : CompletedMarker} {f : Bool} → x ≡ postfix.Again s m f → postfixReply x ≡ fine s (again (m, f))
@@ -191,46 +110,12 @@ pub is-args-refused : (r : Refusal) (ev : List ℕ) → _≡_ {A = Ran (Next (Un
 unfolding argsReply
 is-args-refused r ev = refl
 
--- a call of the machine as the last thing of a rule
-module _ (ts : Tokens) (s : State) (ev : List ℕ) {e : List ℕ} where
-  pub last-complete : (o : Marker) (node : ℕ) {x : Closed} → (x, e) ≡ completeOf s o node ev → (closedReply x, e) ≡ run ts (complete o node give) s ev
-  unfolding run onClosed closedReply
-  last-complete o node {x} p = ap (λ r. (closedReply (r .0), r .1)) p ∙ go (completeOf s o node ev .0) (completeOf s o node ev .1)
-    where
-      go : (y : Closed) (e : List ℕ) → _≡_ {A = Ran CompletedMarker} (closedReply y, e) (onClosed (y, e) (λ s1 m e. (fine s1 m, e)) (λ r e. (bad r, e)))
-      go (closed.Done s m) e = refl
-      go (closed.Refused r) e = refl
-
-  pub last-error : (code : ℕ) {x : Moved} → (x, e) ≡ errorOf s code ev → (movedReply x, e) ≡ run ts (error code (give tt)) s ev
-  unfolding run onMoved movedReply
-  last-error code {x} p = ap (λ r. (movedReply (r .0), r .1)) p ∙ go (errorOf s code ev .0) (errorOf s code ev .1)
-    where
-      go : (y : Moved) (e : List ℕ) → _≡_ {A = Ran (Unit {0})} (movedReply y, e) (onMoved (y, e) (λ s1 e. (fine s1 tt, e)) (λ r e. (bad r, e)))
-      go (moved.On s) e = refl
-      go (moved.Refused r) e = refl
-
-  pub last-precede : (c : CompletedMarker) {x : Opened} → (x, e) ≡ precedeOf s c ev → (openedReply x, e) ≡ run ts (precede c give) s ev
-  unfolding run onOpened openedReply
-  last-precede c {x} p = ap (λ r. (openedReply (r .0), r .1)) p ∙ go (precedeOf s c ev .0) (precedeOf s c ev .1)
-    where
-      go : (y : Opened) (e : List ℕ) → _≡_ {A = Ran Marker} (openedReply y, e) (onOpened (y, e) (λ s1 m e. (fine s1 m, e)) (λ r e. (bad r, e)))
-      go (opened.Open s m) e = refl
-      go (opened.Refused r) e = refl
-
 -- a node turned into another answer
 pub yields-is : (ts : Tokens) (p : Prog CompletedMarker) (s : State) (ev : List ℕ) (x : Closed) {y : Reading} {e : List ℕ} → (closedReply x, e) ≡ run ts p s ev → y ≡ readingOf x → (readingReply y, e) ≡ run ts (yields p) s ev
 unfolding yields readingOf closedReply readingReply run
 yields-is ts p s ev x {y} {e} r q = ap (λ z. (readingReply z, e)) q ∙ go x r
   where
     go : (x : Closed) → (closedReply x, e) ≡ run ts p s ev → (readingReply (readingOf x), e) ≡ run ts (yields p) s ev
-    go (closed.Done s1 m) r = then-fine ts s ev p _ r refl refl
-    go (closed.Refused n) r = then-bad ts s ev p _ r refl refl
-
-pub turning-is : (ts : Tokens) (p : Prog CompletedMarker) (s : State) (ev : List ℕ) (x : Closed) {y : Turn} {e : List ℕ} → (closedReply x, e) ≡ run ts p s ev → y ≡ turnOf x → (turnReply y, e) ≡ run ts (turning p) s ev
-unfolding turning turnOf closedReply turnReply run
-turning-is ts p s ev x {y} {e} r q = ap (λ z. (turnReply z, e)) q ∙ go x r
-  where
-    go : (x : Closed) → (closedReply x, e) ≡ run ts p s ev → (turnReply (turnOf x), e) ≡ run ts (turning p) s ev
     go (closed.Done s1 m) r = then-fine ts s ev p _ r refl refl
     go (closed.Refused n) r = then-bad ts s ev p _ r refl refl
 
@@ -242,27 +127,11 @@ onward-is ts p s ev x {y} {e} r q = ap (λ z. (postfixReply z, e)) q ∙ go x r
     go (closed.Done s1 m) r = then-fine ts s ev p _ r refl refl
     go (closed.Refused n) r = then-bad ts s ev p _ r refl refl
 
-pub last-turn : (ts : Tokens) (o : Marker) (node : ℕ) (s : State) (ev : List ℕ) {x : Closed} {y : Turn} {e : List ℕ} → (x, e) ≡ completeOf s o node ev → y ≡ turnOf x → (turnReply y, e) ≡ run ts (complete o node (λ m. give (again m))) s ev
-unfolding run onClosed turnReply turnOf
-last-turn ts o node s ev {x} {y} {e} p q = ap (λ z. (turnReply z, e)) q ∙ ap (λ r. (turnReply (turnOf (r .0)), r .1)) p ∙ go (completeOf s o node ev .0) (completeOf s o node ev .1)
-  where
-    go : (y : Closed) (e : List ℕ) → _≡_ {A = Ran (Next CompletedMarker CompletedMarker)} (turnReply (turnOf y), e) (onClosed (y, e) (λ s1 m e. (fine s1 (again m), e)) (λ r e. (bad r, e)))
-    go (closed.Done s m) e = refl
-    go (closed.Refused r) e = refl
-
 pub last-done : (ts : Tokens) (o : Marker) (node : ℕ) (s : State) (ev : List ℕ) {x : Closed} {y : Turn} {e : List ℕ} → (x, e) ≡ completeOf s o node ev → y ≡ lastOf x → (turnReply y, e) ≡ run ts (complete o node (λ m. give (done m))) s ev
 unfolding run onClosed turnReply lastOf
 last-done ts o node s ev {x} {y} {e} p q = ap (λ z. (turnReply z, e)) q ∙ ap (λ r. (turnReply (lastOf (r .0)), r .1)) p ∙ go (completeOf s o node ev .0) (completeOf s o node ev .1)
   where
     go : (y : Closed) (e : List ℕ) → _≡_ {A = Ran (Next CompletedMarker CompletedMarker)} (turnReply (lastOf y), e) (onClosed (y, e) (λ s1 m e. (fine s1 (done m), e)) (λ r e. (bad r, e)))
-    go (closed.Done s m) e = refl
-    go (closed.Refused r) e = refl
-
-pub last-ended : (ts : Tokens) (o : Marker) (node : ℕ) (s : State) (ev : List ℕ) {x : Closed} {y : Moved} {e : List ℕ} → (x, e) ≡ completeOf s o node ev → y ≡ endedOf x → (movedReply y, e) ≡ run ts (complete o node (λ _. give tt)) s ev
-unfolding run onClosed movedReply endedOf
-last-ended ts o node s ev {x} {y} {e} p q = ap (λ z. (movedReply z, e)) q ∙ ap (λ r. (movedReply (endedOf (r .0)), r .1)) p ∙ go (completeOf s o node ev .0) (completeOf s o node ev .1)
-  where
-    go : (y : Closed) (e : List ℕ) → _≡_ {A = Ran (Unit {0})} (movedReply (endedOf y), e) (onClosed (y, e) (λ s1 m e. (fine s1 tt, e)) (λ r e. (bad r, e)))
     go (closed.Done s m) e = refl
     go (closed.Refused r) e = refl
 
@@ -320,14 +189,6 @@ module _ (ts : Tokens) (s : State) (ev : List ℕ) (p : Rule) {e : List ℕ} whe
       go (reading.NoExpr s1) r q = then-fine ts s ev p _ r refl refl
       go (reading.Refused n) r q = then-bad ts s ev p _ r refl refl
 
--- an early return tests a flag x the other way round
-module _ {A : Type 0} {out : Ran A} (ts : Tokens) (s : State) (ev : List ℕ) (f g : Unit {0} → Prog A) {x : Bool} (b : Bool) where
-  pub run-held : x ≡ b → not x ≡ false → out ≡ run ts (f tt) s ev → out ≡ run ts (whether b f g) s ev
-  run-held p q h = run-yes ts s ev f g (sym p ∙ not-false x q) h
-
-  pub run-failed : x ≡ b → not x ≡ true → out ≡ run ts (g tt) s ev → out ≡ run ts (whether b f g) s ev
-  run-failed p q h = run-no ts s ev f g (sym p ∙ not-true x q) h
-
 -- a reading at no depth, and at one more
 pub depth-none : {depth : ℕ} (ts : Tokens) (b : ℕ) (s : State) (ev : List ℕ) → depth ≡ 0 → (readingReply (reading.Refused (refusal TOO-DEEP (s .pos .0))), ev) ≡ run ts (exprBp depth ts b) s ev
 unfolding exprBp run readingReply
@@ -356,19 +217,6 @@ module _ (ts : Tokens) (o : Marker) (ev : List ℕ) {x : Reading} where
 pub ruleset missings = (missing-expr, missing-noexpr, missing-refused)
 
 -- a turn of a loop, as the loop has it
-module _ (ts : Tokens) (p : Prog (Next CompletedMarker CompletedMarker)) (st : State) (ev : List ℕ) (x : Turn) {e : List ℕ} where
-  pub turn-ends : {s : State} {m : CompletedMarker} → (turnReply x, e) ≡ run ts p st ev → x ≡ turn.Done s m → (asDone (closedReply (closed.Done s m)), e) ≡ run ts p st ev
-  unfolding asDone closedReply turnReply
-  turn-ends r q = ap (λ (y : Turn). (turnReply y, e)) (sym q) ∙ r
-
-  pub turn-stops : {n : Refusal} → (turnReply x, e) ≡ run ts p st ev → x ≡ turn.Refused n → (asDone (closedReply (closed.Refused n)), e) ≡ run ts p st ev
-  unfolding asDone closedReply turnReply
-  turn-stops r q = ap (λ (y : Turn). (turnReply y, e)) (sym q) ∙ r
-
-  pub turn-goes : {s : State} {m : CompletedMarker} → (turnReply x, e) ≡ run ts p st ev → x ≡ turn.Again s m → (fine s (again m), e) ≡ run ts p st ev
-  unfolding turnReply
-  turn-goes r q = ap (λ (y : Turn). (turnReply y, e)) (sym q) ∙ r
-
 module _ (ts : Tokens) (p : Prog (Next (CompletedMarker × Bool) CompletedMarker)) (st : State) (ev : List ℕ) (x : Postfix) {e : List ℕ} where
   pub postfix-ends : {s : State} {m : CompletedMarker} → (postfixReply x, e) ≡ run ts p st ev → x ≡ postfix.Done s m → (asDone (closedReply (closed.Done s m)), e) ≡ run ts p st ev
   unfolding asDone closedReply postfixReply
@@ -395,11 +243,6 @@ module _ (ts : Tokens) (p : Prog (Next (Unit {0}) (Unit {0}))) (st : State) (ev 
   unfolding argsReply
   args-goes r q = ap (λ (y : Args). (argsReply y, e)) (sym q) ∙ r
 
--- behind a glued `::` there is room for a sum
-pub colon-inside : (ks js : List ℕ) (at : ℕ) {b : Bool} → b ≡ present (lent ks js) at COLON2 → not b ≡ false → at + 2 ≤ length ks
-unfolding widthOf partsOf isGlued rowParts rowOf gluedTable whether
-colon-inside ks js at {b} p q = present-inside (lent ks js) at COLON2 (sym p ∙ not-false b q)
+pub ruleset loops = (turnings, postfix-ends, postfix-stops, postfix-goes, args-ends, args-stops, args-goes)
 
-pub ruleset loops = (turn-ends, turn-stops, turn-goes, postfix-ends, postfix-stops, postfix-goes, args-ends, args-stops, args-goes)
-
-pub ruleset grammar = (steps, opened-open, is-opened-open, opened-refused, is-opened-refused, closed-done, is-closed-done, closed-refused, is-closed-refused, moved-on, is-moved-on, moved-refused, is-moved-refused, reading-expr, is-reading-expr, reading-noexpr, is-reading-noexpr, reading-refused, is-reading-refused, turn-again, is-turn-again, turn-done, is-turn-done, turn-refused, is-turn-refused, postfix-again, is-postfix-again, postfix-done, is-postfix-done, postfix-refused, is-postfix-refused, args-more, is-args-more, args-end, is-args-end, args-refused, is-args-refused, yields-is, turning-is, onward-is, last-turn, last-done, last-ended, last-complete, last-error, last-precede, given-expr, given-other, anyway-expr, anyway-noexpr, anyway-refused, extended-other, extended-expr, argument-other, run-held, run-failed, depth-none, depth-some)
+pub ruleset grammar = (atoms, reading-expr, is-reading-expr, reading-noexpr, is-reading-noexpr, reading-refused, is-reading-refused, postfix-again, is-postfix-again, postfix-done, is-postfix-done, postfix-refused, is-postfix-refused, args-more, is-args-more, args-end, is-args-end, args-refused, is-args-refused, yields-is, onward-is, last-done, given-expr, given-other, anyway-expr, anyway-noexpr, anyway-refused, extended-other, extended-expr, argument-other, depth-none, depth-some)

@@ -6,41 +6,32 @@ use mathlib.Core.List.{List}
 use Prim.Native.Nat.{ℕ, zero, suc, _+_, _-_, _*_, _≤_, _<_}
 use native.Mathlib.Omega.{arith}
 use native.Mathlib.Nat.{le-refl}
-use lib.ListN.{length, length-set}
-use lib.Dec.{eqb, ltb}
-use borrow.Author.Tests.{eqb-true, ltb-false}
+use lib.ListN.{length}
+use borrow.Author.Tests.{eqb-true}
 use Rattle.base.specs.Base.{whether, bound, Next, again, done}
 use Rattle.base.proofs.Cases.{whether-by, bound-by}
-use Rattle.input.specs.SyntaxKind.{COMMA, DOT, AMP, L-PAREN, L-BRACK, QUESTION, AS-KW, AWAIT-KW, COLON2, DOT2, DOT2EQ, LITERAL, PATH-EXPR}
-use Rattle.input.specs.Input.{Tokens, lent, kindAt, jointAt}
-use Rattle.input.specs.declared.Refusal.{Refusal}
+use Rattle.input.specs.SyntaxKind.{COMMA, DOT, AMP, L-PAREN, L-BRACK, QUESTION, AWAIT-KW, DOT2, DOT2EQ, LITERAL, PATH-EXPR}
+use Rattle.input.specs.Input.{Tokens, lent, kindAt}
 use Rattle.input.proofs.Laws.{kind-inside}
 use Rattle.event.specs.declared.State.{State}
 use Rattle.parser.specs.declared.Marker.{Marker}
 use Rattle.parser.specs.declared.CompletedMarker.{CompletedMarker}
-use Rattle.parser.specs.declared.Taken.{Taken}
-use Rattle.parser.specs.declared.Taken.the-variants as taken
-use Rattle.parser.specs.Calls.{startOf, precedeOf, errorOf, eatOf, bumpAnyOf, splitOf, abandonOf}
-use Rattle.parser.specs.Prog.{Prog, give, refuse, look, start, complete, precede, eat, bumpAny, error, split, then, Reply, fine, bad, Ran, run, onTaken, Perhaps, some, none}
-use Rattle.parser.proofs.Moves.{ReplyBy, Kept, Stays, Goes, TakenBy, opened-by, moved-by, taken-by, parted-by, then-by, start-moves, precede-moves, error-moves, abandon-moves, eat-moves, bump-moves, split-moves, onward as never-falls}
-use Rattle.grammar.specs.declared.Op.{Op}
-use Rattle.grammar.specs.declared.Turn.{Turn}
-use Rattle.grammar.specs.declared.Turn.the-variants as turn
+use Rattle.parser.specs.Calls.{startOf, splitOf, abandonOf}
+use Rattle.parser.specs.Prog.{Prog, give, then, Reply, fine, bad, Ran, run, Perhaps, some, none}
+use Rattle.parser.proofs.Moves.{ReplyBy, Stays, Goes, opened-by, moved-by, parted-by, then-by, start-moves, abandon-moves, split-moves, onward as never-falls}
+use Rattle.operators.specs.declared.Op.{Op}
+use Rattle.atoms.specs.declared.Turn.{Turn}
+use Rattle.atoms.specs.declared.Turn.the-variants as turn
 use Rattle.grammar.specs.declared.Postfix.{Postfix}
 use Rattle.grammar.specs.declared.Postfix.the-variants as postfix
 use Rattle.grammar.specs.declared.Args.{Args}
 use Rattle.grammar.specs.declared.Args.the-variants as args
-use Rattle.grammar.specs.Views.{turnReply, postfixReply, argsReply}
-use Rattle.grammar.specs.Strength.{currentOp}
-use Rattle.grammar.specs.Atom.{Part, Node, bump, begin, lead, closing, leaf, beginError, errAndBump, errRecover, segment, firstPath, qualified, Turning, turning, pathTurn, path, plainPath, pathNode, castExpr}
-use Rattle.grammar.specs.Expressions.{Rule, Turned, yields, given, givenUp, extendTo, loneDot, anyway, loneComma, noComma, afterArgument, argument, argList, callExpr, indexExpr, tryExpr, dotted, awaitExpr, methodHead, onward, floatField, namedField, noField, field, fieldExpr, beginRef, methodCallExpr, postfixDotExpr, postfixTurn, postfixExpr, parenExpr, plainAtom, atomExpr, atomPostfix, refExpr, prefixExpr, leadingRange, rangeOrAtom, lhs, binExpr, rangeExpr, operatorTurn, operators, extended, expression, noExpression, exprBp}
-
--- an answer stands beyond q, a position of the list
-abbrev pub Past : Tokens → ℕ → State → Type 0
-Past ts q s = (q < s .pos .0) × (q < length (ts .kinds))
-
-abbrev pub Beyond : {A : Type 0} → Tokens → ℕ → Ran A → Type 0
-Beyond ts q r = ReplyBy (λ s1 _ _. Past ts q s1) (λ _ _. Unit {0}) r
+use Rattle.atoms.specs.Views.{turnReply}
+use Rattle.grammar.specs.Views.{postfixReply, argsReply}
+use Rattle.operators.specs.Strength.{currentOp}
+use Rattle.atoms.specs.Atom.{Node, bump, begin, lead, errAndBump, errRecover, Turning, castExpr}
+use Rattle.atoms.proofs.Moves.{Past, Beyond, beyond-on, from-go, then-beyond, then-later, precede-beyond, bump-beyond, begin-beyond, lead-beyond, leaf-beyond, path-node-beyond, Turns, going, turning-goes, cast-beyond, err-and-bump-beyond}
+use Rattle.grammar.specs.Expressions.{Rule, Turned, yields, given, givenUp, extendTo, loneDot, loneComma, afterArgument, argument, argList, callExpr, indexExpr, tryExpr, dotted, awaitExpr, methodHead, onward, floatField, namedField, noField, field, fieldExpr, beginRef, methodCallExpr, postfixDotExpr, postfixTurn, parenExpr, plainAtom, atomExpr, atomPostfix, refExpr, prefixExpr, leadingRange, rangeOrAtom, lhs, binExpr, rangeExpr, operatorTurn, extended, expression, noExpression, exprBp}
 
 -- an expression stands beyond q
 abbrev pub Found : Tokens → ℕ → State → Perhaps CompletedMarker → Type 0
@@ -51,86 +42,26 @@ abbrev pub Takes : Tokens → ℕ → Ran (Perhaps CompletedMarker) → Type 0
 Takes ts q r = ReplyBy (λ s1 a _. Found ts q s1 a) (λ _ _. Unit {0}) r
 
 module _ (ts : Tokens) (q : ℕ) where
-  beyond-go : {A : Type 0} (x : Reply A) (e : List ℕ) → q < length (ts .kinds) → Kept (λ s1 _. suc q ≤ s1 .pos .0) (x, e) → Beyond ts q (x, e)
-  beyond-go (fine s a) e l h = (omega arith, l)
-  beyond-go (bad r) e l h = tt
-
-  -- whatever goes on from beyond q
-  beyond-on : {A : Type 0} (p : Prog A) (s : State) (ev : List ℕ) → Past ts q s → Beyond ts q (run ts p s ev)
-  beyond-on p s ev h = beyond-go (run ts p s ev .0) (run ts p s ev .1) (h .1) (never-falls ts p (suc q) s ev (omega arith))
-
-  from-go : {A : Type 0} (x : Reply A) (e : List ℕ) → Kept (λ s1 _. q ≤ s1 .pos .0) (x, e) → ReplyBy (λ s1 _ _. q ≤ s1 .pos .0) (λ _ _. Unit {0}) (x, e)
-  from-go (fine s a) e h = h
-  from-go (bad r) e h = tt
-
-  -- a rule after one that takes; a rule that takes after any
-  then-beyond : {A B : Type 0} (p : Prog A) (k : A → Prog B) (s : State) (ev : List ℕ) → Beyond ts q (run ts p s ev) → Beyond ts q (run ts (then p k) s ev)
-  then-beyond p k s ev h = then-by (Beyond ts q) (λ s1 _ _. Past ts q s1) (λ _ _. Unit {0}) ts p k s ev h (λ s1 a e g. beyond-on (k a) s1 e g) (λ _ _ _. tt)
-
-  then-later : {A B : Type 0} (p : Prog A) (k : A → Prog B) (s : State) (ev : List ℕ) → q ≤ s .pos .0 → ((a : A) (s1 : State) (e : List ℕ) → q ≤ s1 .pos .0 → Beyond ts q (run ts (k a) s1 e)) → Beyond ts q (run ts (then p k) s ev)
-  then-later p k s ev l h = then-by (Beyond ts q) (λ s1 _ _. q ≤ s1 .pos .0) (λ _ _. Unit {0}) ts p k s ev (from-go (run ts p s ev .0) (run ts p s ev .1) (never-falls ts p q s ev l)) (λ s1 a e g. h a s1 e g) (λ _ _ _. tt)
-
-  module _ (s : State) (ev : List ℕ) (l : q ≤ s .pos .0) where
-    start-beyond : {A : Type 0} (f : Marker → Prog A) → ((o : Marker) (s1 : State) (e : List ℕ) → q ≤ s1 .pos .0 → Beyond ts q (run ts (f o) s1 e)) → Beyond ts q (run ts (start f) s ev)
-    unfolding run
-    start-beyond f h = opened-by (Beyond ts q) (Stays s ev) (λ e. e ≡ ev) (startOf s ev) _ _ (start-moves ts s ev) (λ s1 o e g. h o s1 e (omega arith)) (λ _ _ _. tt)
-
-    precede-beyond : {A : Type 0} (m : CompletedMarker) (f : Marker → Prog A) → ((o : Marker) (s1 : State) (e : List ℕ) → q ≤ s1 .pos .0 → Beyond ts q (run ts (f o) s1 e)) → Beyond ts q (run ts (precede m f) s ev)
-    unfolding run
-    precede-beyond m f h = opened-by (Beyond ts q) (Stays s ev) (λ e. e ≡ ev) (precedeOf s m ev) _ _ (precede-moves ts s m ev) (λ s1 o e g. h o s1 e (omega arith)) (λ _ _ _. tt)
-
-    bump-beyond : (kind : ℕ) → Beyond ts q (run ts (bump kind) s ev)
-    unfolding bump run
-    bump-beyond kind = taken-by (Beyond ts q) (Goes ts s ev) (λ e. e ≡ ev) (eatOf ts s kind ev) _ _ _ (eat-moves ts s kind ev) (λ s1 e g. (omega arith, omega arith)) (λ _ _. tt) (λ _ _ _. tt)
-
-    any-beyond : {A : Type 0} (p : Prog A) → Beyond ts q (run ts (bumpAny p (refuse 8 0)) s ev)
-    unfolding run
-    any-beyond p = taken-by (Beyond ts q) (Goes ts s ev) (λ e. e ≡ ev) (bumpAnyOf ts s ev) _ _ _ (bump-moves ts s ev) (λ s1 e g. beyond-on p s1 e (omega arith, omega arith)) (λ _ _. tt) (λ _ _ _. tt)
-
-  begin-beyond : (kind : ℕ) (s : State) (ev : List ℕ) → q ≤ s .pos .0 → Beyond ts q (run ts (begin kind) s ev)
-  unfolding begin
-  begin-beyond kind s ev l = start-beyond s ev l _ (λ o s1 e h. then-beyond (bump kind) _ s1 e (bump-beyond s1 e h kind))
-
-  lead-beyond : (m : CompletedMarker) (kind : ℕ) (s : State) (ev : List ℕ) → q ≤ s .pos .0 → Beyond ts q (run ts (lead m kind) s ev)
-  unfolding lead
-  lead-beyond m kind s ev l = precede-beyond s ev l m _ (λ o s1 e h. then-beyond (bump kind) _ s1 e (bump-beyond s1 e h kind))
-
-  leaf-beyond : (node : ℕ) (s : State) (ev : List ℕ) → q ≤ s .pos .0 → Beyond ts q (run ts (leaf node) s ev)
-  unfolding leaf
-  leaf-beyond node s ev l = start-beyond s ev l _ (λ o s1 e h. any-beyond s1 e h _)
-
-  segment-beyond : (s : State) (ev : List ℕ) → q ≤ s .pos .0 → Beyond ts q (run ts segment s ev)
-  unfolding segment
-  segment-beyond s ev l = start-beyond s ev l _ (λ o s1 e h. then-beyond (leaf _) _ s1 e (leaf-beyond _ s1 e h))
-
-  first-beyond : (s : State) (ev : List ℕ) → q ≤ s .pos .0 → Beyond ts q (run ts firstPath s ev)
-  unfolding firstPath
-  first-beyond s ev l = start-beyond s ev l _ (λ o s1 e h. then-beyond segment _ s1 e (segment-beyond s1 e h))
-
-  path-node-beyond : (node : ℕ) (s : State) (ev : List ℕ) → q ≤ s .pos .0 → Beyond ts q (run ts (pathNode ts node) s ev)
-  unfolding pathNode plainPath path
-  path-node-beyond node s ev l = start-beyond s ev l _ (λ o s1 e h. then-beyond (plainPath ts) _ s1 e (then-beyond (path ts) _ s1 e (then-beyond firstPath _ s1 e (first-beyond s1 e h))))
-
   arg-list-beyond : (read : ℕ → Rule) (s : State) (ev : List ℕ) → q ≤ s .pos .0 → Beyond ts q (run ts (argList ts read) s ev)
   unfolding argList
-  arg-list-beyond read s ev l = then-beyond (begin L-PAREN) _ s ev (begin-beyond L-PAREN s ev l)
+  arg-list-beyond read s ev l = then-beyond ts q (begin L-PAREN) _ s ev (begin-beyond ts q L-PAREN s ev l)
 
   call-beyond : (read : ℕ → Rule) (m : CompletedMarker) (s : State) (ev : List ℕ) → q ≤ s .pos .0 → Beyond ts q (run ts (callExpr ts read m) s ev)
   unfolding callExpr
-  call-beyond read m s ev l = precede-beyond s ev l m _ (λ o s1 e h. then-beyond (argList ts read) _ s1 e (arg-list-beyond read s1 e h))
+  call-beyond read m s ev l = precede-beyond ts q s ev l m _ (λ o s1 e h. then-beyond ts q (argList ts read) _ s1 e (arg-list-beyond read s1 e h))
 
   method-beyond : (read : ℕ → Rule) (recovery : Bool) (m : CompletedMarker) (s : State) (ev : List ℕ) → q ≤ s .pos .0 → Beyond ts q (run ts (methodCallExpr ts read recovery m) s ev)
   unfolding methodCallExpr
-  method-beyond read recovery m s ev l = then-later (methodHead ts recovery m) _ s ev l (λ o s1 e h. then-beyond (argList ts read) _ s1 e (arg-list-beyond read s1 e h))
+  method-beyond read recovery m s ev l = then-later ts q (methodHead ts recovery m) _ s ev l (λ o s1 e h. then-beyond ts q (argList ts read) _ s1 e (arg-list-beyond read s1 e h))
 
   await-beyond : (recovery : Bool) (m : CompletedMarker) (s : State) (ev : List ℕ) → q ≤ s .pos .0 → Beyond ts q (run ts (awaitExpr recovery m) s ev)
   unfolding awaitExpr
-  await-beyond recovery m s ev l = then-later (dotted recovery m) _ s ev l (λ o s1 e h. then-beyond (bump AWAIT-KW) _ s1 e (bump-beyond s1 e h AWAIT-KW))
+  await-beyond recovery m s ev l = then-later ts q (dotted recovery m) _ s ev l (λ o s1 e h. then-beyond ts q (bump AWAIT-KW) _ s1 e (bump-beyond ts q s1 e h AWAIT-KW))
 
   -- a turn that goes on, from a rule that takes
   onward-beyond : (p : Node) (s : State) (ev : List ℕ) → Beyond ts q (run ts p s ev) → Beyond ts q (run ts (onward p) s ev)
   unfolding onward
-  onward-beyond p s ev h = then-beyond p _ s ev h
+  onward-beyond p s ev h = then-beyond ts q p _ s ev h
 
   -- a node that takes, as a reading; a reading that goes on from beyond q
   yields-takes : (p : Node) (s : State) (ev : List ℕ) → Beyond ts q (run ts p s ev) → Takes ts q (run ts (yields p) s ev)
@@ -143,7 +74,7 @@ module _ (ts : Tokens) (q : ℕ) where
   takes-go (bad r) e h = tt
 
   takes-on : (p : Rule) (s : State) (ev : List ℕ) → Past ts q s → Takes ts q (run ts p s ev)
-  takes-on p s ev h = takes-go (run ts p s ev .0) (run ts p s ev .1) (beyond-on p s ev h)
+  takes-on p s ev h = takes-go (run ts p s ev .0) (run ts p s ev .1) (beyond-on ts q p s ev h)
 
   given-up-takes : (o : Marker) (s : State) (ev : List ℕ) → Takes ts q (run ts (givenUp o) s ev)
   unfolding givenUp run
@@ -178,23 +109,23 @@ module _ (ts : Tokens) (q : ℕ) where
     unfolding plainAtom run
     plain-takes =
         bound-by Here _ _
-        (whether-by Here _ _ _ (λ _. tt) (λ _. whether-by Here _ _ _ (λ _. lone-dot-takes s ev) (λ _. yields-takes _ s ev (leaf-beyond LITERAL s ev l))))
+        (whether-by Here _ _ _ (λ _. tt) (λ _. whether-by Here _ _ _ (λ _. lone-dot-takes s ev) (λ _. yields-takes _ s ev (leaf-beyond ts q LITERAL s ev l))))
 
     atom-takes : Takes ts q (run ts (atomExpr ts read) s ev)
     unfolding atomExpr run parenExpr
     atom-takes =
         bound-by Here _ _
-        (whether-by Here _ _ _ (λ _. yields-takes _ s ev (path-node-beyond PATH-EXPR s ev l))
-        (λ _. whether-by Here _ _ _ (λ _. yields-takes _ s ev (then-beyond (begin L-PAREN) _ s ev (begin-beyond L-PAREN s ev l))) (λ _. plain-takes)))
+        (whether-by Here _ _ _ (λ _. yields-takes _ s ev (path-node-beyond ts q PATH-EXPR s ev l))
+        (λ _. whether-by Here _ _ _ (λ _. yields-takes _ s ev (then-beyond ts q (begin L-PAREN) _ s ev (begin-beyond ts q L-PAREN s ev l))) (λ _. plain-takes)))
 
     lhs-takes : Takes ts q (run ts (lhs ts read) s ev)
     unfolding lhs rangeOrAtom atomPostfix run refExpr beginRef prefixExpr leadingRange
     lhs-takes =
         bound-by Here _ _
-        (whether-by Here _ _ _ (λ _. yields-takes _ s ev (then-beyond beginRef _ s ev (then-beyond (begin AMP) _ s ev (begin-beyond AMP s ev l))))
-        (λ _. whether-by Here _ _ _ (λ _. yields-takes _ s ev (then-beyond (begin _) _ s ev (begin-beyond _ s ev l)))
-        (λ _. whether-by Here _ _ _ (λ _. yields-takes _ s ev (then-beyond (begin DOT2EQ) _ s ev (begin-beyond DOT2EQ s ev l)))
-        (λ _. whether-by Here _ _ _ (λ _. yields-takes _ s ev (then-beyond (begin DOT2) _ s ev (begin-beyond DOT2 s ev l))) (λ _. given-takes (atomExpr ts read) _ s ev atom-takes)))))
+        (whether-by Here _ _ _ (λ _. yields-takes _ s ev (then-beyond ts q beginRef _ s ev (then-beyond ts q (begin AMP) _ s ev (begin-beyond ts q AMP s ev l))))
+        (λ _. whether-by Here _ _ _ (λ _. yields-takes _ s ev (then-beyond ts q (begin _) _ s ev (begin-beyond ts q _ s ev l)))
+        (λ _. whether-by Here _ _ _ (λ _. yields-takes _ s ev (then-beyond ts q (begin DOT2EQ) _ s ev (begin-beyond ts q DOT2EQ s ev l)))
+        (λ _. whether-by Here _ _ _ (λ _. yields-takes _ s ev (then-beyond ts q (begin DOT2) _ s ev (begin-beyond ts q DOT2 s ev l))) (λ _. given-takes (atomExpr ts read) _ s ev atom-takes)))))
 
     extended-takes : (o : Marker) → Takes ts q (run ts (extended ts read o) s ev)
     unfolding extended extendTo
@@ -220,34 +151,6 @@ takes-a-token (suc d) ts b s ev =
     (λ _. no-expression-takes ts (s .pos .0) (exprBp d ts) s1 e (omega arith) o)))
     (λ _ _ _. tt)
 
--- a turn that goes on stands beyond q
-abbrev Going : {S A : Type 0} → Tokens → ℕ → State → Next S A → Type 0
-Going ts q s (again z) = Past ts q s
-Going ts q s (done a) = Unit {0}
-
-abbrev Turns : {S A : Type 0} → Tokens → ℕ → Ran (Next S A) → Type 0
-Turns ts q r = ReplyBy (λ s1 n _. Going ts q s1 n) (λ _ _. Unit {0}) r
-
-going-go : {S A : Type 0} (ts : Tokens) (q : ℕ) (x : Reply (Next S A)) (e : List ℕ) → Beyond ts q (x, e) → Turns ts q (x, e)
-going-go ts q (fine s (again z)) e h = h
-going-go ts q (fine s (done a)) e h = tt
-going-go ts q (bad r) e h = tt
-
-going : {S A : Type 0} (ts : Tokens) (q : ℕ) (p : Prog (Next S A)) (s : State) (ev : List ℕ) → Beyond ts q (run ts p s ev) → Turns ts q (run ts p s ev)
-going ts q p s ev h = going-go ts q (run ts p s ev .0) (run ts p s ev .1) h
-
-turning-goes : (ts : Tokens) (q : ℕ) (p : Node) (s : State) (ev : List ℕ) → Beyond ts q (run ts p s ev) → Turns ts q (run ts (turning p) s ev)
-unfolding turning
-turning-goes ts q p s ev h = going ts q (turning p) s ev (then-beyond ts q p _ s ev h)
-
-qualified-beyond : (ts : Tokens) (q : ℕ) (m : CompletedMarker) (s : State) (ev : List ℕ) → q ≤ s .pos .0 → Beyond ts q (run ts (qualified m) s ev)
-unfolding qualified
-qualified-beyond ts q m s ev l = then-beyond ts q (lead m COLON2) _ s ev (lead-beyond ts q m COLON2 s ev l)
-
-cast-beyond : (ts : Tokens) (q : ℕ) (m : CompletedMarker) (s : State) (ev : List ℕ) → q ≤ s .pos .0 → Beyond ts q (run ts (castExpr ts m) s ev)
-unfolding castExpr
-cast-beyond ts q m s ev l = then-beyond ts q (lead m AS-KW) _ s ev (lead-beyond ts q m AS-KW s ev l)
-
 range-beyond : (ts : Tokens) (q : ℕ) (read : ℕ → Rule) (op : Op) (m : CompletedMarker) (s : State) (ev : List ℕ) → q ≤ s .pos .0 → Beyond ts q (run ts (rangeExpr ts read op m) s ev)
 unfolding rangeExpr
 range-beyond ts q read op m s ev l = then-beyond ts q (lead m (op .kind)) _ s ev (lead-beyond ts q m (op .kind) s ev l)
@@ -268,16 +171,6 @@ field-beyond : (ts : Tokens) (q : ℕ) (m : CompletedMarker) (s : State) (ev : L
 unfolding fieldExpr dotted whether
 field-beyond ts q m s ev l = then-beyond ts q (dotted false m) _ s ev (lead-beyond ts q m DOT s ev l)
 
-path-goes : (ts : Tokens) (m : CompletedMarker) (s : State) (ev : List ℕ) → Turns ts (s .pos .0) (run ts (pathTurn ts m) s ev)
-unfolding pathTurn run
-path-goes ts m s ev =
-    whether-by (λ (p : Turning). Turns ts (s .pos .0) (run ts p s ev)) _ _ _
-    (λ _. bound-by (λ (p : Turning). Turns ts (s .pos .0) (run ts p s ev)) _ _
-    (whether-by (λ (p : Turning). Turns ts (s .pos .0) (run ts p s ev)) _ _ _
-    (λ _. turning-goes ts (s .pos .0) (qualified m) s ev (qualified-beyond ts (s .pos .0) m s ev (le-refl _)))
-    (λ _. tt)))
-    (λ _. tt)
-
 operator-goes : (ts : Tokens) (read : ℕ → Rule) (b : ℕ) (m : CompletedMarker) (s : State) (ev : List ℕ) → Turns ts (s .pos .0) (run ts (operatorTurn ts read b m) s ev)
 unfolding operatorTurn run bound
 operator-goes ts read b m s ev =
@@ -286,40 +179,6 @@ operator-goes ts read b m s ev =
     (λ _. whether-by (λ (p : Turning). Turns ts (s .pos .0) (run ts p s ev)) _ _ _
     (λ _. going ts (s .pos .0) (rangeExpr ts read (currentOp ts (s .pos .0)) m) s ev (range-beyond ts (s .pos .0) read (currentOp ts (s .pos .0)) m s ev (le-refl _)))
     (λ _. turning-goes ts (s .pos .0) (binExpr ts read (currentOp ts (s .pos .0)) m) s ev (bin-beyond ts (s .pos .0) read (currentOp ts (s .pos .0)) m s ev (le-refl _)))))
-
--- at a token of the list, one can be taken
-abbrev TakenIn : Tokens → State → List ℕ → Taken × List ℕ → Type 0
-TakenIn ts s ev t = elim (t .0) [ taken.Took s1 ↦ Goes ts s ev s1 (t .1) | taken.No ↦ ⊥ | taken.Refused r ↦ Unit {0} ]
-
-bump-inside : (ts : Tokens) (s : State) (ev : List ℕ) → s .pos .0 < length (ts .kinds) → TakenIn ts s ev (bumpAnyOf ts s ev)
-unfolding bumpAnyOf
-bump-inside ts s ev l =
-    whether-by (TakenIn ts s ev) _ _ _
-    (λ _. whether-by (TakenIn ts s ev) _ _ _ (λ _. (omega arith, omega arith, length-set ev (s .count) _)) (λ _. tt))
-    (λ n. let z : length (ts .kinds) ≤ s .pos .0 = ltb-false _ _ n in absurd (omega arith))
-
-inside-go : {A : Type 0} (ts : Tokens) (q : ℕ) (s : State) (ev : List ℕ) (p r : Prog A) → q ≤ s .pos .0 → (x : Taken) (e : List ℕ) → TakenIn ts s ev (x, e) → Beyond ts q (onTaken (x, e) (λ s1 e. run ts p s1 e) (λ e. run ts r s e) (λ n e. (bad n, e)))
-unfolding onTaken
-inside-go ts q s ev p r l (taken.Took s1) e h = beyond-on ts q p s1 e (omega arith, omega arith)
-inside-go ts q s ev p r l taken.No e h = absurd h
-inside-go ts q s ev p r l (taken.Refused n) e h = tt
-
-any-inside : {A : Type 0} (ts : Tokens) (q : ℕ) (p r : Prog A) (s : State) (ev : List ℕ) → q ≤ s .pos .0 → s .pos .0 < length (ts .kinds) → Beyond ts q (run ts (bumpAny p r) s ev)
-unfolding run
-any-inside ts q p r s ev l i = inside-go ts q s ev p r l (bumpAnyOf ts s ev .0) (bumpAnyOf ts s ev .1) (bump-inside ts s ev i)
-
-begin-error-stays : (ts : Tokens) (s : State) (ev : List ℕ) → ReplyBy (λ s1 _ _. s1 .pos .0 ≡ s .pos .0) (λ _ _. Unit {0}) (run ts beginError s ev)
-unfolding beginError run
-begin-error-stays ts s ev =
-    opened-by (ReplyBy {A = Marker} (λ s1 _ _. s1 .pos .0 ≡ s .pos .0) (λ _ _. Unit {0})) (Stays s ev) (λ e. e ≡ ev) (startOf s ev) _ _ (start-moves ts s ev)
-    (λ s1 o e h. moved-by (ReplyBy {A = Marker} (λ s2 _ _. s2 .pos .0 ≡ s .pos .0) (λ _ _. Unit {0})) (Stays s1 e) (λ l. l ≡ e) (errorOf s1 _ e) _ _ (error-moves ts s1 _ e) (λ s2 e2 h2. omega arith) (λ _ _ _. tt))
-    (λ _ _ _. tt)
-
-err-and-bump-beyond : (ts : Tokens) (s : State) (ev : List ℕ) → s .pos .0 < length (ts .kinds) → Beyond ts (s .pos .0) (run ts errAndBump s ev)
-unfolding errAndBump
-err-and-bump-beyond ts s ev l =
-    then-by (Beyond ts (s .pos .0)) (λ s1 _ _. s1 .pos .0 ≡ s .pos .0) (λ _ _. Unit {0}) ts beginError _ s ev (begin-error-stays ts s ev)
-    (λ s1 o e h. any-inside ts (s .pos .0) _ _ s1 e (omega arith) (omega arith)) (λ _ _ _. tt)
 
 -- "Arguments"
 abbrev ArgTurn : Type 0
@@ -437,10 +296,6 @@ module _ (ks js : List ℕ) (s s1 : State) (ev e : List ℕ) where
 
   fell : Past ts (s .pos .0) s1 → length ks - s1 .pos .0 < length ks - s .pos .0
   fell h = omega arith
-
-  pub path-less : (m : CompletedMarker) {m1 : CompletedMarker} (x : Turn) → (turnReply x, e) ≡ run ts (pathTurn ts m) s ev → x ≡ turn.Again s1 m1 → length ks - s1 .pos .0 < length ks - s .pos .0
-  unfolding turnReply
-  path-less m x p q = fell (subst (λ (r : Ran (Next CompletedMarker CompletedMarker)). Turns ts (s .pos .0) r) (sym p ∙ ap (λ (y : Turn). (turnReply y, e)) q) (path-goes ts m s ev))
 
   pub operator-less : (read : ℕ → Rule) (b : ℕ) (m : CompletedMarker) {m1 : CompletedMarker} (x : Turn) → (turnReply x, e) ≡ run ts (operatorTurn ts read b m) s ev → x ≡ turn.Again s1 m1 → length ks - s1 .pos .0 < length ks - s .pos .0
   unfolding turnReply

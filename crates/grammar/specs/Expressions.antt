@@ -10,10 +10,10 @@ use Rattle.input.specs.Input.{Tokens, kindAt, jointAt, present}
 use Rattle.parser.specs.declared.Marker.{Marker}
 use Rattle.parser.specs.declared.CompletedMarker.{CompletedMarker}
 use Rattle.parser.specs.Prog.{Prog, give, refuse, look, start, complete, abandon, precede, extend, eat, bumpAny, error, split, then, turns, Perhaps, some, none}
-use Rattle.grammar.specs.declared.Op.{Op}
-use Rattle.grammar.specs.TokenSet.{isFirst, endsArguments, isPrefix, isFieldName, outsideAtom}
-use Rattle.grammar.specs.Strength.{currentOp, rightOf, isRange, operandFollows}
-use Rattle.grammar.specs.Atom.{Part, Node, bump, begin, lead, closing, leaf, errAndBump, errRecover, Turning, turning, pathNode, castExpr}
+use Rattle.operators.specs.declared.Op.{Op}
+use Rattle.operators.specs.TokenSet.{isFirst, endsArguments, isPrefix, isFieldName, outsideAtom}
+use Rattle.operators.specs.Strength.{currentOp, rightOf, isRange, operandFollows}
+use Rattle.atoms.specs.Atom.{Part, Node, bump, begin, lead, closing, leaf, errAndBump, errRecover, Turning, turning, pathNode, castExpr}
 
 -- a reading: an expression's node, or none
 abbrev pub Rule : Type 0

@@ -3,34 +3,23 @@ ghost use mathlib.Core.Path.{_≡_};
 ghost use mathlib.Core.Bool.{Bool};
 ghost use Rattle.input.specs.Input.{lent};
 ghost use Rattle.parser.specs.Prog.{run};
-ghost use Rattle.grammar.specs.Views.{openedReply, closedReply, movedReply, readingReply, turnReply, postfixReply, argsReply, argsEnd, missingOf, lastOf};
+ghost use Rattle.atoms.specs.Views.{openedReply, closedReply, movedReply, turnReply};
+ghost use Rattle.grammar.specs.Views.{readingReply, postfixReply, argsReply, argsEnd, missingOf, lastOf, readingOf, postfixOf};
 ghost use Rattle.grammar.specs.Expressions.{afterArgument, argument, arguments, argList, callExpr, indexExpr, tryExpr, dotted, awaitExpr, noGenerics, methodName, methodHead, floatField, namedField, noField, field, fieldExpr, beginRef, parenTail, isMethod, isDots, nameAt, methodCallExpr, postfixDotExpr, postfixTurn, postfixExpr, parenExpr, atomExpr, refExpr, prefixExpr, leadingRange, lhs, binExpr, rangeExpr, operatorTurn, operators, extended, expression, noExpression, exprBp, plainAtom, givenUp, loneComma, loneDot, noComma, atomPostfix};
 use crate::Args;
-use crate::Op;
 use crate::Postfix;
 use crate::Reading;
-use crate::Turn;
-use crate::atom::begin;
-use crate::atom::bump;
-use crate::atom::closing;
-use crate::atom::err_and_bump;
-use crate::atom::err_recover;
-use crate::atom::lead;
-use crate::atom::leaf;
-use crate::atom::postfix_of;
-use crate::atom::reading_of;
-use crate::atom::turn_of;
-use crate::operator::current_op;
-use crate::operator::is_range;
-use crate::operator::operand_follows;
-use crate::operator::right_of;
-use crate::paths::path_node;
-use crate::token_set::ends_arguments;
-use crate::token_set::is_field_name;
-use crate::token_set::is_first;
-use crate::token_set::is_prefix;
-use crate::token_set::outside_atom;
-use crate::types::cast_expr;
+use atoms::Turn;
+use atoms::atom::begin;
+use atoms::atom::bump;
+use atoms::atom::closing;
+use atoms::atom::err_and_bump;
+use atoms::atom::err_recover;
+use atoms::atom::lead;
+use atoms::atom::leaf;
+use atoms::atom::turn_of;
+use atoms::paths::path_node;
+use atoms::types::cast_expr;
 use event::State;
 use input::Depth;
 use input::Refusal;
@@ -76,6 +65,16 @@ use input::syntax_kind::REF_EXPR;
 use input::syntax_kind::TOO_DEEP;
 use input::syntax_kind::TRY_EXPR;
 use input::syntax_kind::UNFIT;
+use operators::Op;
+use operators::operator::current_op;
+use operators::operator::is_range;
+use operators::operator::operand_follows;
+use operators::operator::right_of;
+use operators::token_set::ends_arguments;
+use operators::token_set::is_field_name;
+use operators::token_set::is_first;
+use operators::token_set::is_prefix;
+use operators::token_set::outside_atom;
 use parser::Closed;
 use parser::CompletedMarker;
 use parser::Marker;
@@ -318,6 +317,26 @@ fn last_of(c: Closed) -> Turn
     match c {
         Closed::Done(s, m) => Turn::Done(s, m),
         Closed::Refused(r) => Turn::Refused(r),
+    }
+}
+
+// A node as a reading.
+fn reading_of(c: Closed) -> Reading
+    ensures { λ r. ⌜ r ≡ readingOf c ⌝ }
+{
+    match c {
+        Closed::Done(s, m) => Reading::Expr(s, m),
+        Closed::Refused(r) => Reading::Refused(r),
+    }
+}
+
+// A node after which the postfix forms go on, with their dot still to be read.
+fn postfix_of(c: Closed) -> Postfix
+    ensures { λ r. ⌜ r ≡ postfixOf c ⌝ }
+{
+    match c {
+        Closed::Done(s, m) => Postfix::Again(s, m, false),
+        Closed::Refused(r) => Postfix::Refused(r),
     }
 }
 

@@ -140,18 +140,20 @@ unfolding capacityOf
 capacity-limit ev = whether-by (λ (n : ℕ). n ≤ eventLimit) _ _ _ (λ h. let z : length ev < eventLimit = ltb-true _ _ h in omega arith) (λ _. omega arith)
 
 module _ {b : Bool} (n k : ℕ) (ev : List ℕ) (p : b ≡ leb (n + k) (capacityOf ev)) (q : not b ≡ false) where
-  room-limit : n + k ≤ 65552
-  unfolding eventLimit tokenLimit
+  room-limit : n + k ≤ eventLimit
   room-limit = let z : n + k ≤ capacityOf ev = leb-true _ _ (sym p ∙ not-false b q) in let y : capacityOf ev ≤ eventLimit = capacity-limit ev in omega arith
 
   pub room-sum : Fits w64 (n + k)
+  unfolding eventLimit tokenLimit
   room-sum = fits-below tt room-limit
 
   room-part : (j : ℕ) → j ≤ k → Fits w64 (n + j)
-  room-part j t = let z : n + j ≤ 65552 = let y : n + k ≤ 65552 = room-limit in omega arith in fits-below {n = 65552} tt z
+  unfolding eventLimit tokenLimit
+  room-part j t = let z : n + j ≤ eventLimit = let y : n + k ≤ eventLimit = room-limit in omega arith in fits-below {n = eventLimit} tt z
 
   pub room-offset : (m : ℕ) → Fits w32 (n - m)
-  room-offset m = let z : n - m ≤ 65552 = let y : n + k ≤ 65552 = room-limit in omega arith in fits-below {n = 65552} tt z
+  unfolding eventLimit tokenLimit
+  room-offset m = let z : n - m ≤ eventLimit = let y : n + k ≤ eventLimit = room-limit in omega arith in fits-below {n = eventLimit} tt z
 
 module _ {b : Bool} (n : ℕ) (ev : List ℕ) where
   pub one-of-two : b ≡ leb (n + 2) (capacityOf ev) → not b ≡ false → Fits w64 (n + 1)

@@ -10,6 +10,7 @@ use stored::Section;
 use stored::Span;
 use stored::Tag;
 ghost use mathlib.Core.Path.{_≡_};
+ghost use Rattle.event.specs.Event.{eventLimit};
 ghost use lib.ListN.{length};
 
 // The place after a part of `bytes`.
@@ -77,13 +78,13 @@ fn show_all(cases: &[u8], events: &mut [u64], steps: &mut [u32], out: &mut [u8])
 }
 
 fn events_room() -> [u64; State::LIMIT]
-    ensures { λ r. ⌜ 65552 ≡ length r ⌝ }
+    ensures { λ r. ⌜ eventLimit ≡ length r ⌝ }
 {
     [0; State::LIMIT]
 }
 
 fn steps_room() -> [u32; State::LIMIT]
-    ensures { λ r. ⌜ 65552 ≡ length r ⌝ }
+    ensures { λ r. ⌜ eventLimit ≡ length r ⌝ }
 {
     [0; State::LIMIT]
 }

@@ -13,7 +13,7 @@ use Rattle.event.specs.Event.{Event, token}
 use Rattle.parser.specs.Prog.{Prog}
 use Rattle.parser.specs.declared.Marker.{Marker}
 use Rattle.parser.specs.declared.CompletedMarker.{CompletedMarker}
-use Rattle.grammar.specs.Atom.{begin, closing, errAndBump}
+use Rattle.atoms.specs.Atom.{begin, closing, errAndBump}
 use Rattle.grammar.specs.Expressions.{Rule, loneComma, noComma, afterArgument, argument, arguments, argList}
 use Rattle.tree.specs.Tree.{Tree, tok, Args, nothing, last, more, leaves, argLeaves, Covers}
 use Rattle.tree.specs.Grouped.{Grouped, GroupedArgs, NoRanges}

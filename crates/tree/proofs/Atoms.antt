@@ -16,8 +16,8 @@ use Rattle.event.specs.Event.{Event}
 use Rattle.parser.specs.Prog.{give, complete, eat, then}
 use Rattle.parser.specs.declared.Marker.{Marker}
 use Rattle.parser.specs.declared.CompletedMarker.{CompletedMarker}
-use Rattle.grammar.specs.TokenSet.{isFirst, isPrefix, outsideAtom}
-use Rattle.grammar.specs.Atom.{Node, begin, closing, leaf, errRecover, pathNode}
+use Rattle.operators.specs.TokenSet.{isFirst, isPrefix, outsideAtom}
+use Rattle.atoms.specs.Atom.{Node, begin, closing, leaf, errRecover, pathNode}
 use Rattle.grammar.specs.Expressions.{Rule, loneDot, plainAtom, anyway, beginRef, parenTail, parenBody, parenExpr, atomExpr, atomPostfix, postfixExpr, refExpr, prefixExpr, leadingRange, rangeOrAtom, lhs}
 use Rattle.tree.specs.Tree.{Tree, literal, name, paren, prefix, borrowed, borrowedMut, bare, upTo, Leaf, tok, leaves, Covers}
 use Rattle.tree.specs.Table.{holds}

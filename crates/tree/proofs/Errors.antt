@@ -22,7 +22,8 @@ use Rattle.parser.specs.declared.Moved.{Moved}
 use Rattle.parser.specs.declared.Taken.{Taken}
 use Rattle.parser.specs.declared.Parted.{Parted}
 use Rattle.parser.proofs.Moves.{OpenedBy, ClosedBy, MovedBy, TakenBy, PartedBy, Keeps, Kept, run-keeps}
-use Rattle.demand.proofs.Tokens.{both, code-small}
+use Rattle.input.proofs.Laws.{both-true}
+use Rattle.demand.proofs.Tokens.{code-small}
 use Rattle.demand.proofs.Seen.{capacity-length, has-room}
 
 -- an error event stands below the count
@@ -33,11 +34,11 @@ pub record Err (s : State) (ev : List ℕ) : Type 0 where
 
 open-start : (s : State) (m : ℕ) (ev : List ℕ) → isOpen s m ev ≡ true → tagOf (getD ev m 0) ≡ START
 unfolding isOpen
-open-start s m ev q = live-parts _ (both _ _ q .1) .0
+open-start s m ev q = live-parts _ (both-true _ _ q .1) .0
 
 closed-start : (s : State) (m : ℕ) (ev : List ℕ) → isClosed s m ev ≡ true → tagOf (getD ev m 0) ≡ START
 unfolding isClosed
-closed-start s m ev q = named-parts _ (both _ _ q .1) .0
+closed-start s m ev q = named-parts _ (both-true _ _ q .1) .0
 
 -- a push, and a start changed
 pushed-kept : (s s1 : State) (ev : List ℕ) (i v : ℕ) → s .count ≤ i → s .count ≤ s1 .count → Err s ev → Err s1 (set ev i v)
@@ -67,7 +68,7 @@ kept-complete s o node ev g =
 
 last-at : (s : State) (m : ℕ) (ev : List ℕ) → isLast s m ev ≡ true → m + 1 ≡ s .count
 unfolding isLast
-last-at s m ev q = eqb-true _ _ (both _ _ q .0)
+last-at s m ev q = eqb-true _ _ (both-true _ _ q .0)
 
 kept-abandon : (s : State) (o : Marker) (ev : List ℕ) → Err s ev → MovedBy Err (Err s) (abandonOf s o ev)
 unfolding abandonOf

@@ -17,7 +17,7 @@ use Rattle.reader.specs.Reader.{consumedOf, stepsOf, parseOf}
 use Rattle.reader.specs.Worked.{read}
 use Rattle.reader.specs.declared.Parsed.{Parsed}
 use Rattle.reader.specs.declared.Parsed.the-variants as parsed
-use Rattle.demand.proofs.Tokens.{both}
+use Rattle.input.proofs.Laws.{both-true}
 use Rattle.tree.specs.Tree.{Tree, Covers, rest, path, leaves, raws, pathSteps, flat}
 use Rattle.tree.specs.Grouped.{Grouped, NoRanges}
 use Rattle.tree.specs.Statement.{NoErrors, Over, Answer, GroupedTree, GroupsWithRangesToo}
@@ -85,7 +85,7 @@ below (x ∷ l) = whether (ltb x FAULT) (λ _. below l) (λ _. false)
 no-errors : (l : List ℕ) → below l ≡ true → NoErrors l
 unfolding below
 no-errors [] h = tt
-no-errors (x ∷ l) h = let b = both (ltb x FAULT) (λ _. below l) h in (ltb-true x FAULT (b .0), no-errors l (b .1))
+no-errors (x ∷ l) h = let b = both-true (ltb x FAULT) (λ _. below l) h in (ltb-true x FAULT (b .0), no-errors l (b .1))
 
 pub p3-to-p6-are-instances : Shows
 unfolding flat pathSteps leaves path rest widthOf partsOf isGlued rowOf rowParts gluedTable whether Covers raws present follow stands below

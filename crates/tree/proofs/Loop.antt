@@ -17,12 +17,12 @@ use Rattle.event.specs.Event.{Event, live}
 use Rattle.parser.specs.Prog.{Prog, give, complete}
 use Rattle.parser.specs.declared.Marker.{Marker}
 use Rattle.parser.specs.declared.CompletedMarker.{CompletedMarker}
-use Rattle.grammar.specs.declared.Op.{Op}
-use Rattle.grammar.specs.declared.Side.{Side}
-use Rattle.grammar.specs.declared.Side.the-variants as side
-use Rattle.grammar.specs.TokenSet.{isFirst}
-use Rattle.grammar.specs.Strength.{currentOp, onSide, rightOf, isRange}
-use Rattle.grammar.specs.Atom.{lead, errRecover, Turning, turning, castType, castExpr}
+use Rattle.operators.specs.declared.Op.{Op}
+use Rattle.operators.specs.declared.Side.{Side}
+use Rattle.operators.specs.declared.Side.the-variants as side
+use Rattle.operators.specs.TokenSet.{isFirst}
+use Rattle.operators.specs.Strength.{currentOp, onSide, rightOf, isRange}
+use Rattle.atoms.specs.Atom.{lead, errRecover, Turning, turning, castType, castExpr}
 use Rattle.grammar.specs.Expressions.{Rule, extendTo, lhs, binExpr, rangeExpr, operatorTurn, operators, extended, expression, noExpression, exprBp}
 use Rattle.tree.specs.Tree as tree
 use Rattle.tree.specs.Tree.{Tree, binary, cast, from, between, tok, leaves, Covers}

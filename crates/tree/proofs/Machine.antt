@@ -25,7 +25,8 @@ use Rattle.parser.specs.declared.Taken.{Taken}
 use Rattle.parser.specs.declared.Taken.the-variants as taken
 use Rattle.parser.specs.declared.Parted.{Parted}
 use Rattle.parser.specs.declared.Parted.the-variants as parted
-use Rattle.demand.proofs.Tokens.{both, node-small, kind-small, width-small}
+use Rattle.input.proofs.Laws.{both-true, width-bounds}
+use Rattle.demand.proofs.Tokens.{node-small, kind-small}
 use Rattle.demand.proofs.Seen.{seen-set, seen-push, seen-at, capacity-length, has-room}
 
 -- up to the count n the events are E
@@ -63,11 +64,11 @@ room k s ev q = omega (arith, has-room k s ev q, capacity-length ev)
 
 open-live : (s : State) (m : ℕ) (ev : List ℕ) → isOpen s m ev ≡ true → isLive (getD ev m 0) ≡ true
 unfolding isOpen
-open-live s m ev q = both _ _ q .1
+open-live s m ev q = both-true _ _ q .1
 
 closed-named : (s : State) (m : ℕ) (ev : List ℕ) → isClosed s m ev ≡ true → isNamed (getD ev m 0) ≡ true
 unfolding isClosed
-closed-named s m ev q = both _ _ q .1
+closed-named s m ev q = both-true _ _ q .1
 
 -- the parts of a start that is seen
 parts-of : (x : ℕ) {st st′ : Status} {off : ℕ} {fl : Bool} → view x ≡ start st off fl → view x ≡ start st′ (offsetOf x) (eqb (flagOf x) 1) → (st′ ≡ st) × (offsetOf x ≡ off) × (eqb (flagOf x) 1 ≡ fl)
@@ -92,7 +93,7 @@ module _ (ts : Tokens) (s : State) (ev : List ℕ) {E : List Event} (h : Shows (
   eat-at k =
       whether-by P _ _ _
       (λ b. whether-by P _ _ _
-      (λ p. whether-by P _ _ _ (λ q. (pushes (s .count) ev h (tokenEntry k (widthOf k)) _ (view-token-entry k (widthOf k) (omega (arith, kind-small k b)) (width-small k)) (room 1 s ev q), refl, p)) (λ _. tt))
+      (λ p. whether-by P _ _ _ (λ q. (pushes (s .count) ev h (tokenEntry k (widthOf k)) _ (view-token-entry k (widthOf k) (omega (arith, kind-small k b)) (omega (arith, width-bounds k .1))) (room 1 s ev q), refl, p)) (λ _. tt))
       (λ p. (refl, p)))
       (λ _. tt)
     where

@@ -14,8 +14,9 @@ use Rattle.event.specs.Event.{Event, token, live, named}
 use Rattle.parser.specs.Prog.{Prog, give, refuse, start, complete, precede, eat, then}
 use Rattle.parser.specs.declared.Marker.{Marker}
 use Rattle.parser.specs.declared.CompletedMarker.{CompletedMarker}
-use Rattle.grammar.specs.Atom.{bump, begin, lead, expect, closing, leaf}
-use Rattle.demand.proofs.Tokens.{raw-present, raw-small}
+use Rattle.atoms.specs.Atom.{bump, begin, lead, expect, closing, leaf}
+use Rattle.input.proofs.Laws.{raw-bounds}
+use Rattle.demand.proofs.Tokens.{raw-present}
 use Rattle.tree.specs.Tree.{Leaf, tok, float, Covers}
 use Rattle.tree.proofs.Shape as shape
 use Rattle.tree.proofs.Shape.{Shape, both, node, led, shut, code, root, reach, Rooted, size-is, rootName, rootFlag, front, back, code-is, front-is, back-is, tk}
@@ -124,7 +125,7 @@ module _ (ts : Tokens) where
   pub leaf-wp : (n k : ℕ) (D : List Event) (q : ℕ) → kindAt ts q ≡ k → isRaw k ≡ true → Wp ts (leaf n) (Makes ts (node n (shape.tok k 1)) (tok k ∷ []) D q) D q
   unfolding leaf code
   leaf-wp n k D q e r = λ o w. (
-    omega (arith, raw-small k r),
+    omega (arith, raw-bounds k r .1),
     λ h. let z = raw-present ts q (ltb-true _ _ h) (ap isRaw e ∙ r) in
         subst (λ (j : ℕ). Wp ts (complete o n give) (Makes ts (node n (shape.tok k 1)) (tok k ∷ []) D q) ((D ++ (event.start live 0 false ∷ [])) ++ (token j 1 ∷ [])) (q + 1)) (sym e)
         (node-wp o n (shape.tok k 1) (tok k ∷ []) D _ q (q + 1) w (append-assoc D _ _)

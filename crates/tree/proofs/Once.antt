@@ -13,7 +13,7 @@ use Rattle.input.specs.SyntaxKind.{IDENT, AS-KW, MUT-KW, AWAIT-KW, L-PAREN, R-P
 use Rattle.input.specs.Input.{Tokens, kindAt, present, follow, partsOf, isGlued, widthOf, isRaw, firstOff, lengthsOf, bytesOf, onChecked, tokensOf}
 use Rattle.input.specs.declared.Checked.{Checked}
 use Rattle.input.specs.declared.Checked.the-variants as checked
-use Rattle.demand.proofs.Tokens.{both, stands-at, raw-small}
+use Rattle.input.proofs.Laws.{both-true, stands-says, raw-bounds}
 use Rattle.tree.specs.Tree.{Tree, literal, name, paren, prefix, borrowed, borrowedMut, binary, cast, bare, upTo, from, between, call, index, try, field, method, await, twoFields, lone, Stem, dotted, pointed, Args, nothing, last, more, Leaf, tok, float, leaves, stemLeaves, argLeaves, Covers, enter, raw, taken, leave, nodeOver, nameRef, pathSteps, flat, stemSteps, argSteps}
 use Rattle.tree.proofs.Measures.{size, stemSize, some-size, Each, each-left, each-right}
 use Rattle.tree.proofs.Undo.{Item, whole, two, asTree, nodeOf, undo}
@@ -160,8 +160,8 @@ kind-of : (ts : Tokens) → Raw ts → (p k : ℕ) → present ts p k ≡ true �
 unfolding present partsOf isGlued follow
 kind-of ts r p k =
     whether-by (λ (l : List ℕ). follow ts p l ≡ true → k < 256) _ _ _
-    (λ g _. omega (arith, leb-true k SHREQ (both _ _ g .1)))
-    (λ _ h. let z = stands-at ts p k h in omega (arith, raw-small k (ap isRaw (sym (z .1)) ∙ r p (z .0))))
+    (λ g _. omega (arith, leb-true k SHREQ (both-true _ _ g .1)))
+    (λ _ h. let z = stands-says ts p k h in omega (arith, raw-bounds k (ap isRaw (sym (z .same)) ∙ r p (z .inside)) .1))
 
 covers-kinds : (ts : Tokens) → Raw ts → (p q : ℕ) (l : List Leaf) → Covers ts p l q → Kinds l
 unfolding Covers

@@ -12,10 +12,10 @@ use Rattle.base.proofs.Cases.{whether-by, bound-by}
 use Rattle.base.proofs.Laws.{whether-yes}
 use Rattle.input.specs.SyntaxKind.{AS-KW, DOT, AMP, PIPE, PLUS, MINUS, STAR, SLASH, PERCENT, CARET, EQ, L-ANGLE, R-ANGLE, MINUSEQ, NEQ, DOT2, STAREQ, SLASHEQ, AMP2, AMPEQ, PERCENTEQ, CARETEQ, PLUSEQ, SHL, LTEQ, EQ2, GTEQ, SHR, PIPEEQ, PIPE2, DOT2EQ, SHLEQ, SHREQ}
 use Rattle.input.specs.Input.{Tokens, jointAt, stands, present, follow, partsOf, isGlued, rowOf, rowParts, gluedTable}
-use Rattle.grammar.specs.declared.Op.{Op}
-use Rattle.grammar.specs.TokenSet.{among}
-use Rattle.grammar.specs.Strength.{leftOp, assignOp, notAnOp, orOp, pipeOp, rAngleOp, lAngleOp, ampOp, eqOp, dotOp, bangOp, arithOp, opOf, currentOp, onSide, rightOf, isRange}
-use Rattle.demand.proofs.Tokens.{both}
+use Rattle.operators.specs.declared.Op.{Op}
+use Rattle.operators.specs.TokenSet.{among}
+use Rattle.operators.specs.Strength.{leftOp, assignOp, notAnOp, orOp, pipeOp, rAngleOp, lAngleOp, ampOp, eqOp, dotOp, bangOp, arithOp, opOf, currentOp, onSide, rightOf, isRange}
+use Rattle.input.proofs.Laws.{both-true}
 use Rattle.tree.specs.Tree.{Tree}
 use Rattle.tree.specs.Table.{Associativity, leftToRight, rightToLeft, requireParentheses, table, holds, hasOperator, placeIn, place, sideIn, side, unary}
 use Rattle.tree.specs.Grouped.{rank, LeftFits, RightFits, FitsLeft, FitsRight, IsBinary}
@@ -182,9 +182,9 @@ rows =
 pub no-dots : (ts : Tokens) (i : ℕ) → present ts i DOT2 ≡ false → present ts i DOT2EQ ≡ true → ⊥
 unfolding present follow partsOf isGlued rowOf rowParts gluedTable whether
 no-dots ts i n q =
-    let a = both (stands ts i DOT) _ q in
-    let b = both (eqb (jointAt ts i) 1) _ (a .1) in
-    let c = both (stands ts (i + 1) DOT) _ (b .1) in
+    let a = both-true (stands ts i DOT) _ q in
+    let b = both-true (eqb (jointAt ts i) 1) _ (a .1) in
+    let c = both-true (stands ts (i + 1) DOT) _ (b .1) in
     false≢true (sym n ∙ sym (whether-yes _ _ (a .0) (whether-yes _ _ (b .0) (sym (c .0)))))
 
 module _ (ts : Tokens) (i : ℕ) where

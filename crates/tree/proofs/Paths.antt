@@ -15,7 +15,7 @@ use Rattle.event.specs.Event.{Event, live}
 use Rattle.parser.specs.Prog.{Prog, give, start, complete, then}
 use Rattle.parser.specs.declared.Marker.{Marker}
 use Rattle.parser.specs.declared.CompletedMarker.{CompletedMarker}
-use Rattle.grammar.specs.Atom.{Part, lead, leaf, beginError, errAndBump, errRecover, turning, segment, firstPath, qualified, pathTurn, pathRest, path, noMacro, plainPath, pathNode, afterType, pathType, castType}
+use Rattle.atoms.specs.Atom.{Part, lead, leaf, beginError, errAndBump, errRecover, turning, segment, firstPath, qualified, pathTurn, pathRest, path, noMacro, plainPath, pathNode, afterType, pathType, castType}
 use Rattle.tree.specs.Tree as tree
 use Rattle.tree.specs.Tree.{tok, rest, Covers}
 use Rattle.tree.proofs.Shape.{Shape, both, node, code, root, reach, Rooted, tk, nameShape, segmentShape, pathShape}

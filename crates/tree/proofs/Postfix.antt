@@ -17,8 +17,8 @@ use Rattle.parser.specs.Prog.{Prog, give, complete, split, then}
 use Rattle.parser.specs.declared.Marker.{Marker}
 use Rattle.parser.specs.declared.CompletedMarker.{CompletedMarker}
 use Rattle.parser.proofs.Moves.{present-within}
-use Rattle.grammar.specs.TokenSet.{isFieldName}
-use Rattle.grammar.specs.Atom.{Node, bump, lead, closing, leaf}
+use Rattle.operators.specs.TokenSet.{isFieldName}
+use Rattle.atoms.specs.Atom.{Node, bump, lead, closing, leaf}
 use Rattle.grammar.specs.Expressions.{Rule, callExpr, indexExpr, tryExpr, dotted, awaitExpr, noGenerics, methodName, methodHead, Turned, onward, floatField, namedField, noField, fieldExpr, isMethod, isDots, nameAt, methodCallExpr, postfixDotExpr, postfixTurn, postfixExpr, argList}
 use Rattle.grammar.specs.Expressions as rule
 use Rattle.tree.specs.Tree as tree

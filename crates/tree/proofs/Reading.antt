@@ -9,9 +9,9 @@ use Rattle.input.specs.Input.{Tokens, kindAt}
 use Rattle.event.specs.Event.{Event}
 use Rattle.parser.specs.Prog.{Prog, give, then, Perhaps, some, none}
 use Rattle.parser.specs.declared.CompletedMarker.{CompletedMarker}
-use Rattle.grammar.specs.declared.Op.{Op}
-use Rattle.grammar.specs.Strength.{currentOp}
-use Rattle.grammar.specs.Atom.{Node}
+use Rattle.operators.specs.declared.Op.{Op}
+use Rattle.operators.specs.Strength.{currentOp}
+use Rattle.atoms.specs.Atom.{Node}
 use Rattle.grammar.specs.Expressions.{Rule, yields, given, anyway}
 use Rattle.tree.specs.Tree.{Tree, leaves, Covers}
 use Rattle.tree.specs.Grouped.{rank, fieldName, Grouped, NoRanges, NoOperator, NoPrefix}

@@ -6,7 +6,7 @@ use Rattle.grammar.proofs.expressions.await_expr.Statement.{statement}
 use Rattle.grammar.proofs.expressions.await_expr.Tie as tie
 use Rattle.grammar.proofs.expressions.await_expr.Reads as reads
 use Rattle.grammar.proofs.expressions.await_expr.Lts as lts
-use Rattle.grammar.proofs.atom.bump.Reads as bump-reads
+use Rattle.atoms.proofs.atom.bump.Reads as bump-reads
 use Rattle.grammar.proofs.expressions.dotted.Reads as dotted-reads
 use Rattle.parser.proofs.inner.complete.Reads as complete-reads
 

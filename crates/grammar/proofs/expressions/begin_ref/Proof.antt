@@ -6,7 +6,7 @@ use Rattle.grammar.proofs.expressions.begin_ref.Statement.{statement}
 use Rattle.grammar.proofs.expressions.begin_ref.Tie as tie
 use Rattle.grammar.proofs.expressions.begin_ref.Reads as reads
 use Rattle.grammar.proofs.expressions.begin_ref.Lts as lts
-use Rattle.grammar.proofs.atom.begin.Reads as begin-reads
+use Rattle.atoms.proofs.atom.begin.Reads as begin-reads
 use Rattle.parser.proofs.inner.eat.Reads as eat-reads
 
 pub begin-ref-spec : {M : Type 1} → statement M

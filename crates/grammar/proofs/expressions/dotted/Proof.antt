@@ -6,7 +6,7 @@ use Rattle.grammar.proofs.expressions.dotted.Statement.{statement}
 use Rattle.grammar.proofs.expressions.dotted.Tie as tie
 use Rattle.grammar.proofs.expressions.dotted.Reads as reads
 use Rattle.grammar.proofs.expressions.dotted.Lts as lts
-use Rattle.grammar.proofs.atom.lead.Reads as lead-reads
+use Rattle.atoms.proofs.atom.lead.Reads as lead-reads
 use Rattle.parser.proofs.inner.precede.Reads as precede-reads
 
 pub dotted-spec : {M : Type 1} → statement M

@@ -6,7 +6,7 @@ use Rattle.grammar.proofs.expressions.lone_comma.Statement.{statement}
 use Rattle.grammar.proofs.expressions.lone_comma.Tie as tie
 use Rattle.grammar.proofs.expressions.lone_comma.Reads as reads
 use Rattle.grammar.proofs.expressions.lone_comma.Lts as lts
-use Rattle.grammar.proofs.atom.err_and_bump.Reads as err-and-bump-reads
+use Rattle.atoms.proofs.atom.err_and_bump.Reads as err-and-bump-reads
 
 pub lone-comma-spec : {M : Type 1} → statement M
 unfolding loneComma

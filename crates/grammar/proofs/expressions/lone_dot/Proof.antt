@@ -6,7 +6,7 @@ use Rattle.grammar.proofs.expressions.lone_dot.Statement.{statement}
 use Rattle.grammar.proofs.expressions.lone_dot.Tie as tie
 use Rattle.grammar.proofs.expressions.lone_dot.Reads as reads
 use Rattle.grammar.proofs.expressions.lone_dot.Lts as lts
-use Rattle.grammar.proofs.atom.err_recover.Reads as err-recover-reads
+use Rattle.atoms.proofs.atom.err_recover.Reads as err-recover-reads
 
 pub lone-dot-spec : {M : Type 1} → statement M
 unfolding loneDot

@@ -6,7 +6,7 @@ use Rattle.grammar.proofs.expressions.method_name.Statement.{statement}
 use Rattle.grammar.proofs.expressions.method_name.Tie as tie
 use Rattle.grammar.proofs.expressions.method_name.Reads as reads
 use Rattle.grammar.proofs.expressions.method_name.Lts as lts
-use Rattle.grammar.proofs.atom.leaf.Reads as leaf-reads
+use Rattle.atoms.proofs.atom.leaf.Reads as leaf-reads
 use Rattle.grammar.proofs.expressions.no_generics.Reads as no-generics-reads
 use Rattle.input.proofs.kind_at.Reads as kind-at-reads
 use Rattle.parser.proofs.inner.error.Reads as error-reads

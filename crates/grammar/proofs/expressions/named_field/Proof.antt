@@ -6,7 +6,7 @@ use Rattle.grammar.proofs.expressions.named_field.Statement.{statement}
 use Rattle.grammar.proofs.expressions.named_field.Tie as tie
 use Rattle.grammar.proofs.expressions.named_field.Reads as reads
 use Rattle.grammar.proofs.expressions.named_field.Lts as lts
-use Rattle.grammar.proofs.atom.leaf.Reads as leaf-reads
+use Rattle.atoms.proofs.atom.leaf.Reads as leaf-reads
 use Rattle.parser.proofs.inner.complete.Reads as complete-reads
 
 pub named-field-spec : {M : Type 1} → statement M

@@ -6,7 +6,7 @@ use Rattle.grammar.proofs.expressions.no_comma.Statement.{statement}
 use Rattle.grammar.proofs.expressions.no_comma.Tie as tie
 use Rattle.grammar.proofs.expressions.no_comma.Reads as reads
 use Rattle.grammar.proofs.expressions.no_comma.Lts as lts
-use Rattle.grammar.proofs.token_set.is_first.Reads as is-first-reads
+use Rattle.operators.proofs.token_set.is_first.Reads as is-first-reads
 use Rattle.input.proofs.kind_at.Reads as kind-at-reads
 use Rattle.parser.proofs.inner.error.Reads as error-reads
 

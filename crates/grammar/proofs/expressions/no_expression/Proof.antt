@@ -6,7 +6,7 @@ use Rattle.grammar.proofs.expressions.no_expression.Statement.{statemen
 use Rattle.grammar.proofs.expressions.no_expression.Tie as tie
 use Rattle.grammar.proofs.expressions.no_expression.Reads as reads
 use Rattle.grammar.proofs.expressions.no_expression.Lts as lts
-use Rattle.grammar.proofs.atom.err_recover.Reads as err-recover-reads
+use Rattle.atoms.proofs.atom.err_recover.Reads as err-recover-reads
 use Rattle.grammar.proofs.expressions.given_up.Reads as given-up-reads
 
 pub no-expression-spec : {M : Type 1} → statement M

@@ -6,7 +6,7 @@ use Rattle.grammar.proofs.expressions.paren_tail.Statement.{statement}
 use Rattle.grammar.proofs.expressions.paren_tail.Tie as tie
 use Rattle.grammar.proofs.expressions.paren_tail.Reads as reads
 use Rattle.grammar.proofs.expressions.paren_tail.Lts as lts
-use Rattle.grammar.proofs.atom.closing.Reads as closing-reads
+use Rattle.atoms.proofs.atom.closing.Reads as closing-reads
 use Rattle.input.proofs.kind_at.Reads as kind-at-reads
 
 pub paren-tail-spec : {M : Type 1} → statement M

@@ -6,10 +6,10 @@ use Rattle.grammar.proofs.expressions.plain_atom.Statement.{statement}
 use Rattle.grammar.proofs.expressions.plain_atom.Tie as tie
 use Rattle.grammar.proofs.expressions.plain_atom.Reads as reads
 use Rattle.grammar.proofs.expressions.plain_atom.Lts as lts
-use Rattle.grammar.proofs.atom.leaf.Reads as leaf-reads
-use Rattle.grammar.proofs.atom.reading_of.Reads as reading-of-reads
+use Rattle.atoms.proofs.atom.leaf.Reads as leaf-reads
+use Rattle.grammar.proofs.expressions.reading_of.Reads as reading-of-reads
 use Rattle.grammar.proofs.expressions.lone_dot.Reads as lone-dot-reads
-use Rattle.grammar.proofs.token_set.outside_atom.Reads as outside-atom-reads
+use Rattle.operators.proofs.token_set.outside_atom.Reads as outside-atom-reads
 use Rattle.input.proofs.kind_at.Reads as kind-at-reads
 
 pub plain-atom-spec : {M : Type 1} → statement M

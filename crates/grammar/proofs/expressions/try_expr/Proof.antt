@@ -6,7 +6,7 @@ use Rattle.grammar.proofs.expressions.try_expr.Statement.{statement}
 use Rattle.grammar.proofs.expressions.try_expr.Tie as tie
 use Rattle.grammar.proofs.expressions.try_expr.Reads as reads
 use Rattle.grammar.proofs.expressions.try_expr.Lts as lts
-use Rattle.grammar.proofs.atom.lead.Reads as lead-reads
+use Rattle.atoms.proofs.atom.lead.Reads as lead-reads
 use Rattle.parser.proofs.inner.complete.Reads as complete-reads
 
 pub try-expr-spec : {M : Type 1} → statement M

@@ -1,6 +1,6 @@
 -- `range` meets its rule: the search follows the rule along what the callees answered. Assumes nothing.
 use Rattle.parser.proofs.Laws.{then-fine, look-is, run-bound}
-use Rattle.grammar.proofs.Laws.{opened-open, run-held}
+use Rattle.atoms.proofs.Laws.{opened-open, run-held}
 use Rattle.grammar.proofs.Laws.{grammar}
 use Rattle.grammar.specs.Expressions.{rangeExpr}
 use Prim.Native.Nat.{ℕ}

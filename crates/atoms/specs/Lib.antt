@@ -1,0 +1,2 @@
+pub mod Atom
+pub mod Views

@@ -1,0 +1,2 @@
+pub mod TokenSet
+pub mod Strength
