@@ -2,7 +2,10 @@
 use mathlib.Core.Path.{_≡_, sym, ap, _∙_}
 use mathlib.Core.List.{List}
 use Prim.Native.Nat.{ℕ}
+use native.Mathlib.Omega.{arith}
+use Rattle.base.specs.Base.{Next}
 use Rattle.input.specs.Input.{Tokens}
+use Rattle.input.specs.declared.Refusal.{Refusal}
 use Rattle.event.specs.declared.State.{State}
 use Rattle.parser.specs.declared.Marker.{Marker}
 use Rattle.parser.specs.declared.CompletedMarker.{CompletedMarker}
@@ -13,6 +16,17 @@ use Rattle.parser.specs.declared.Taken.{Taken}
 use Rattle.parser.specs.declared.Parted.{Parted}
 use Rattle.parser.specs.Calls.{startOf, completeOf, abandonOf, precedeOf, extendOf, errorOf, eatOf, bumpAnyOf, splitOf}
 use Rattle.parser.specs.Public.{startCall, completeCall, abandonCall, precedeCall, extendCall, errorCall, eatCall, bumpAnyCall, splitCall}
+use Rattle.parser.specs.Prog.{Prog, Reply, fine, bad, run, Perhaps}
+use Rattle.parser.specs.declared.Opened.the-variants as opened
+use Rattle.parser.specs.declared.Closed.the-variants as closed
+use Rattle.parser.specs.declared.Moved.the-variants as moved
+use Rattle.atoms.specs.declared.Turn.{Turn}
+use Rattle.atoms.specs.declared.Turn.the-variants as turn
+use Rattle.atoms.specs.Views.{openedReply, closedReply, movedReply, turnReply}
+use Rattle.grammar.specs.declared.Reading.{Reading}
+use Rattle.grammar.specs.declared.Reading.the-variants as reading
+use Rattle.grammar.specs.Views.{readingReply}
+use Rattle.grammar.specs.Expressions.{exprBp}
 use Rattle.process.specs.Process.{processOf}
 use Rattle.process.specs.declared.Processed.{Processed}
 use Rattle.reader.specs.Reader.{parseOf}
@@ -83,6 +97,74 @@ inner-bump-any-agrees ts s ev p q = with-one-list p q
 
 pub inner-split-agrees : (ts : Tokens) (s : State) (m : Marker) (ev : List ℕ) {x y : Parted} {e f : List ℕ} → (x, e) ≡ splitOf ts s m ev → (y, f) ≡ splitOf ts s m ev → (x ≡ y) × (e ≡ f)
 inner-split-agrees ts s m ev p q = with-one-list p q
+
+-- the rules of the grammar: a reply tells the answer that it is of, so any two answers that meet a rule agree, for every rule
+fine-not-bad : {A : Type 0} {s : State} {a : A} {r : Refusal} → fine s a ≡ bad r → ⊥
+fine-not-bad q = let z : _≡_ {A = ℕ} 0 1 = cc in omega arith
+
+pub opened-told : (x y : Opened) → openedReply x ≡ openedReply y → x ≡ y
+unfolding openedReply
+opened-told (opened.Open s m) (opened.Open s′ m′) q = cc
+opened-told (opened.Open s m) (opened.Refused r′) q = absurd (fine-not-bad q)
+opened-told (opened.Refused r) (opened.Open s′ m′) q = absurd (fine-not-bad (sym q))
+opened-told (opened.Refused r) (opened.Refused r′) q = cc
+
+pub closed-told : (x y : Closed) → closedReply x ≡ closedReply y → x ≡ y
+unfolding closedReply
+closed-told (closed.Done s m) (closed.Done s′ m′) q = cc
+closed-told (closed.Done s m) (closed.Refused r′) q = absurd (fine-not-bad q)
+closed-told (closed.Refused r) (closed.Done s′ m′) q = absurd (fine-not-bad (sym q))
+closed-told (closed.Refused r) (closed.Refused r′) q = cc
+
+pub moved-told : (x y : Moved) → movedReply x ≡ movedReply y → x ≡ y
+unfolding movedReply
+moved-told (moved.On s) (moved.On s′) q = cc
+moved-told (moved.On s) (moved.Refused r′) q = absurd (fine-not-bad q)
+moved-told (moved.Refused r) (moved.On s′) q = absurd (fine-not-bad (sym q))
+moved-told (moved.Refused r) (moved.Refused r′) q = cc
+
+pub turn-told : (x y : Turn) → turnReply x ≡ turnReply y → x ≡ y
+unfolding turnReply
+turn-told (turn.Again s m) (turn.Again s′ m′) q = cc
+turn-told (turn.Again s m) (turn.Done s′ m′) q = absurd (let z : _≡_ {A = ℕ} 0 1 = cc in omega arith)
+turn-told (turn.Again s m) (turn.Refused r′) q = absurd (fine-not-bad q)
+turn-told (turn.Done s m) (turn.Again s′ m′) q = absurd (let z : _≡_ {A = ℕ} 0 1 = cc in omega arith)
+turn-told (turn.Done s m) (turn.Done s′ m′) q = cc
+turn-told (turn.Done s m) (turn.Refused r′) q = absurd (fine-not-bad q)
+turn-told (turn.Refused r) (turn.Again s′ m′) q = absurd (fine-not-bad (sym q))
+turn-told (turn.Refused r) (turn.Done s′ m′) q = absurd (fine-not-bad (sym q))
+turn-told (turn.Refused r) (turn.Refused r′) q = cc
+
+pub reading-told : (x y : Reading) → readingReply x ≡ readingReply y → x ≡ y
+unfolding readingReply
+reading-told (reading.Expr s m) (reading.Expr s′ m′) q = cc
+reading-told (reading.Expr s m) (reading.NoExpr s′) q = absurd (let z : _≡_ {A = ℕ} 0 1 = cc in omega arith)
+reading-told (reading.Expr s m) (reading.Refused r′) q = absurd (fine-not-bad q)
+reading-told (reading.NoExpr s) (reading.Expr s′ m′) q = absurd (let z : _≡_ {A = ℕ} 0 1 = cc in omega arith)
+reading-told (reading.NoExpr s) (reading.NoExpr s′) q = cc
+reading-told (reading.NoExpr s) (reading.Refused r′) q = absurd (fine-not-bad q)
+reading-told (reading.Refused r) (reading.Expr s′ m′) q = absurd (fine-not-bad (sym q))
+reading-told (reading.Refused r) (reading.NoExpr s′) q = absurd (fine-not-bad (sym q))
+reading-told (reading.Refused r) (reading.Refused r′) q = cc
+
+module _ (ts : Tokens) (s : State) (ev : List ℕ) {e f : List ℕ} where
+  pub opened-rule-agrees : (p : Prog Marker) {x y : Opened} → (openedReply x, e) ≡ run ts p s ev → (openedReply y, f) ≡ run ts p s ev → (x ≡ y) × (e ≡ f)
+  opened-rule-agrees p {x} {y} i j = let z = with-one-list i j in (opened-told x y (z .0), z .1)
+
+  pub closed-rule-agrees : (p : Prog CompletedMarker) {x y : Closed} → (closedReply x, e) ≡ run ts p s ev → (closedReply y, f) ≡ run ts p s ev → (x ≡ y) × (e ≡ f)
+  closed-rule-agrees p {x} {y} i j = let z = with-one-list i j in (closed-told x y (z .0), z .1)
+
+  pub moved-rule-agrees : (p : Prog (Unit {0})) {x y : Moved} → (movedReply x, e) ≡ run ts p s ev → (movedReply y, f) ≡ run ts p s ev → (x ≡ y) × (e ≡ f)
+  moved-rule-agrees p {x} {y} i j = let z = with-one-list i j in (moved-told x y (z .0), z .1)
+
+  pub turn-rule-agrees : (p : Prog (Next CompletedMarker CompletedMarker)) {x y : Turn} → (turnReply x, e) ≡ run ts p s ev → (turnReply y, f) ≡ run ts p s ev → (x ≡ y) × (e ≡ f)
+  turn-rule-agrees p {x} {y} i j = let z = with-one-list i j in (turn-told x y (z .0), z .1)
+
+  pub reading-rule-agrees : (p : Prog (Perhaps CompletedMarker)) {x y : Reading} → (readingReply x, e) ≡ run ts p s ev → (readingReply y, f) ≡ run ts p s ev → (x ≡ y) × (e ≡ f)
+  reading-rule-agrees p {x} {y} i j = let z = with-one-list i j in (reading-told x y (z .0), z .1)
+
+  pub expr-bp-agrees : (depth b : ℕ) {x y : Reading} → (readingReply x, e) ≡ run ts (exprBp depth ts b) s ev → (readingReply y, f) ≡ run ts (exprBp depth ts b) s ev → (x ≡ y) × (e ≡ f)
+  expr-bp-agrees depth b i j = reading-rule-agrees (exprBp depth ts b) i j
 
 -- the pass, and the reader
 pub process-agrees : (s : State) (ev st : List ℕ) {x y : Processed} {e f u v : List ℕ} → (x, e, u) ≡ processOf s ev st → (y, f, v) ≡ processOf s ev st → (x ≡ y) × (e ≡ f) × (u ≡ v)
