@@ -9,3 +9,4 @@ pub mod Runs
 pub mod Ends
 pub mod Theorems
 pub mod Agree
+pub mod Shown

@@ -1,9 +1,10 @@
 -- What is claimed of readings, of the public reader's answers, and of the room that it needs: over lists and numbers, for whatever is lent.
 use Prim.Native.Nat.{ℕ, _+_, _-_, _*_, _/_, _≤_, _<_}
 use mathlib.Core.Path.{_≡_}
+use mathlib.Core.Bool.{true}
 use mathlib.Core.List.{List, [], _∷_, map}
 use mathlib.Core.Logic.{_⊎_}
-use lib.ListN.{length, take}
+use lib.ListN.{length, getD, take}
 use lib.Dec.{ltb, eqb}
 use Rattle.base.specs.Base.{whether}
 use Rattle.input.specs.SyntaxKind.{EVENTS-FULL, STEPS-FULL, TOO-DEEP, OUTSIDE-CUT, TOKEN, LEAVE, FLOAT-SPLIT, WIDTH-STEP, ENDS-IN-DOT}
@@ -20,6 +21,7 @@ use Rattle.reader.specs.declared.Parsed.the-variants as parsed
 use Rattle.demand.specs.Runs.{Call, runOf}
 use Rattle.demand.specs.Steps.{codeOf, stepFrom}
 use Rattle.demand.specs.Demand.{Demand}
+use Rattle.operand.specs.Operand.{isEnter, checkOf}
 
 -- Readings at strength b, where so many may still be opened.
 
@@ -93,3 +95,7 @@ roomOf n = 16 * n + 16
 -- and less is enough
 abbrev pub leastOf : ℕ → ℕ
 leastOf n = 11 * n + 4
+
+-- "Show me one operand", of the reader's own steps: every enter of an answer has its operand
+abbrev pub EveryEnterIsShown : Type 0
+EveryEnterIsShown = (ts : Tokens) (ev st : List ℕ) (consumed n at : ℕ) → parseOf ts ev st .0 ≡ parsed.Steps consumed n → at < n → isEnter (getD (take n (parseOf ts ev st .2)) at 0) ≡ true → checkOf (take n (parseOf ts ev st .2)) at ≡ checked.Fine
