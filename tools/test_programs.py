@@ -1,10 +1,11 @@
 #!/usr/bin/env python3
-"""Runs `read` and `batch` as a user does, on standard input.
+"""Runs `read`, `batch` and `compare` as a user does, on standard input.
 
-usage: test_programs.py [READ BATCH]
+usage: test_programs.py [READ BATCH COMPARE]
 
-READ and BATCH are command lines; by default the programs that `rt check`
-built, under tools/run. The inputs and answers are those of cases.py.
+READ, BATCH and COMPARE are command lines; by default the programs that
+`rt check` built, under tools/run. The inputs and answers are those of
+cases.py; what `compare` must print is worked out from what `read` prints.
 """
 
 import os
@@ -15,9 +16,10 @@ import unittest
 
 import cases
 import compare
+import formula
 
 RUN = os.path.join(compare.ROOT, 'tools', 'run')
-READ, BATCH = [RUN, 'read'], [RUN, 'batch']
+READ, BATCH, COMPARE = [RUN, 'read'], [RUN, 'batch'], [RUN, 'compare']
 SECONDS = 60
 
 
@@ -62,6 +64,57 @@ class Read(unittest.TestCase):
                              cases.BANG_ONE_ANSWER)
 
 
+class Compare(unittest.TestCase):
+    FORMULAS = ('', '1', '-1', '!1', 'a + b', 'a + b * c', '(a + b) * c',
+                'a.0.1', 'a.0. b', 'f(1, x)', 'f(1, x, y)', 'a[', ')',
+                'a as T', '()', 'a!', '-' * 127 + '1', '-' * 128 + '1')
+
+    def wanted(self, first, second):
+        """What 02 asks to be printed, from two answers of `read`."""
+        for answer in first, second:
+            if answer.startswith('refused'):
+                return answer
+        lists = [answer.split('\n')[1:-1] for answer in (first, second)]
+        lines = ['%d %s %s' % (i, x, y)
+                 for i, (x, y) in enumerate(zip(*lists)) if x != y]
+        for name, steps, other in (('first', lists[0], lists[1]),
+                                   ('second', lists[1], lists[0])):
+            lines += ['%s %d %s' % (name, i, steps[i])
+                      for i in range(len(other), len(steps))]
+        return ''.join(line + '\n' for line in lines or ['equal'])
+
+    def test_pairs(self):
+        forms = [formula.encode(formula.lex(text)) for text in self.FORMULAS]
+        answers = [run(READ, form) for form in forms]
+        for first, one in zip(forms, answers):
+            for second, other in zip(forms, answers):
+                with self.subTest(first=first, second=second):
+                    self.assertEqual(run(COMPARE, first + second),
+                                     self.wanted(one, other))
+
+    def test_example(self):
+        """02: `!1` against `-1` prints, whole, one line."""
+        minus_one = formula.encode(formula.lex('-1'))
+        self.assertEqual(run(COMPARE, cases.BANG_ONE + minus_one),
+                         '1 131353 131348\n')
+
+    def test_forms(self):
+        """Forms that are missing, broken, too long or followed by more."""
+        good, long = cases.BANG_ONE, b'\x01\x01\x01'
+        for data, text in (
+                (b'', cases.refusal(10, 0)),
+                (good, cases.refusal(10, 0)),
+                (good + good[:-1], cases.refusal(10, len(good) - 1)),
+                (good + good + b'\0', cases.refusal(10, len(good))),
+                (good + good + good * 200, cases.refusal(10, len(good))),
+                (b'\x02' + good, cases.refusal(10, 0)),
+                (long, cases.refusal(3, 0)),
+                (good + long, cases.refusal(3, 0)),
+                (long + b'\x02', cases.refusal(3, 0))):
+            with self.subTest(data=data):
+                self.assertEqual(run(COMPARE, data), text)
+
+
 class Batch(unittest.TestCase):
     def test_nothing(self):
         self.assertEqual(run(BATCH, b''), '')
@@ -101,7 +154,7 @@ class Batch(unittest.TestCase):
 
 
 if __name__ == '__main__':
-    if len(sys.argv) == 3:
-        READ, BATCH = map(shlex.split, sys.argv[1:])
+    if len(sys.argv) == 4:
+        READ, BATCH, COMPARE = map(shlex.split, sys.argv[1:])
         del sys.argv[1:]
     unittest.main()

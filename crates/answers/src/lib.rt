@@ -56,7 +56,7 @@ fn byte(out: &mut [u8], at: usize, b: u8) -> usize
     at
 }
 
-fn word(out: &mut [u8], at: usize, text: &[u8]) -> usize
+pub fn word(out: &mut [u8], at: usize, text: &[u8]) -> usize
     ensures { λ r. ⌜ Put (now (out .entry)) at (now (text .entry)) r (now (out .exit)) ⌝ }
 {
     let mut end = at;
@@ -88,13 +88,13 @@ fn digits(out: &mut [u8], at: usize, n: u64, most: usize) -> usize
     byte(out, next, digit(n))
 }
 
-fn decimal(out: &mut [u8], at: usize, n: u64) -> usize
+pub fn decimal(out: &mut [u8], at: usize, n: u64) -> usize
     ensures { λ r. ⌜ Put (now (out .entry)) at (decimalOf n) r (now (out .exit)) ⌝ }
 {
     digits(out, at, n, Places::LIMIT)
 }
 
-fn line(out: &mut [u8], at: usize, n: u64) -> usize
+pub fn line(out: &mut [u8], at: usize, n: u64) -> usize
     ensures { λ r. ⌜ Put (now (out .entry)) at (lineOf n) r (now (out .exit)) ⌝ }
 {
     let next = decimal(out, at, n);
@@ -121,7 +121,7 @@ fn lines(out: &mut [u8], at: usize, steps: &[u32]) -> usize
 }
 
 // The first `count` steps.
-fn given(steps: &[u32], count: usize) -> &[u32]
+pub fn given(steps: &[u32], count: usize) -> &[u32]
     ensures { λ r. ⌜ now r ≡ take count (now (steps .entry)) ⌝ }
 {
     if count <= steps.len() {
@@ -147,7 +147,7 @@ fn put_steps(out: &mut [u8], at: usize, consumed: usize, steps: &[u32]) -> usize
     lines(out, next, steps)
 }
 
-fn put_refusal(out: &mut [u8], at: usize, refusal: Refusal) -> usize
+pub fn put_refusal(out: &mut [u8], at: usize, refusal: Refusal) -> usize
     ensures { λ r. ⌜ Put (now (out .entry)) at (refusalText refusal) r (now (out .exit)) ⌝ }
 {
     let next = word(out, at, b"refused ");

@@ -1,0 +1,2 @@
+pub mod Revision
+pub mod Exact
