@@ -1,5 +1,5 @@
 -- Every enter of an answer has its operand: an enter that was never matched would leave more nodes entered than left, against the third demand. Assumes nothing.
-use mathlib.Core.Path.{_≡_, refl, sym, ap, subst, _∙_}
+use mathlib.Core.Path.{_≡_, refl, sym, ap, _∙_}
 use mathlib.Core.Bool.{Bool, true, false}
 use mathlib.Core.List.{List, [], _∷_, map}
 use mathlib.Core.Logic.{⊎-elim}
@@ -8,19 +8,17 @@ use native.Mathlib.Omega.{arith}
 use lib.Dec.{ltb, eqb}
 use lib.ListN.{length, getD, take, List·getD-eq-default}
 use lib.Seq.{take-all}
-use borrow.Author.Tests.{ltb-true, ltb-false, eqb-true, eqb-false, eq-eqb, ne-eqb, lt-ltb, le-ltb}
+use borrow.Author.Tests.{ltb-true, ltb-false}
 use Rattle.base.specs.Base.{whether}
 use Rattle.base.proofs.Cases.{whether-by}
 use Rattle.input.specs.SyntaxKind.{ENTER, TOKEN, LEAVE, FLOAT-SPLIT, FAULT, ENDS-IN-DOT, ERROR, PATH-TYPE}
-use Rattle.input.specs.declared.Checked.the-variants as checked
 use Rattle.input.proofs.Laws.{within-bounds, not-both, true-or-false}
-use Rattle.reader.specs.Reader.{parseOf}
 use Rattle.demand.specs.Lists.{tally}
-use Rattle.demand.specs.Steps.{Step, enter, leave, taken, parted, fault, codeOf, stepFrom, enters, leaves}
-use Rattle.operand.specs.Operand.{isEnter, leavesOf, endOf, checkOf}
+use Rattle.demand.specs.Steps.{Step, enter, leave, parted, codeOf, stepFrom, enters, leaves}
+use Rattle.operand.specs.Operand.{isEnter, leavesOf, endOf}
 use Rattle.operand.specs.Matching.{entersOf, entered, left}
 use Rattle.operand.proofs.Laws.{check-fine}
-use Rattle.operand.proofs.Matching.{entered-more, left-more, entered-none, left-none, unmatched}
+use Rattle.operand.proofs.Matching.{leaves-none, entered-more, left-more, entered-none, left-none, unmatched}
 use Rattle.facts.specs.Facts.{EveryEnterIsShown}
 use Rattle.facts.proofs.Theorems.{meets-demand-three}
 
@@ -33,13 +31,6 @@ enters-at-most x =
     (λ _. omega arith)
 
 -- a number that is a step leaves as many as the step
-leaves-none : (x : ℕ) → (x ≡ LEAVE → ⊥) → (x ≡ FLOAT-SPLIT → ⊥) → (x ≡ FLOAT-SPLIT + ENDS-IN-DOT → ⊥) → leavesOf x ≡ 0
-unfolding leavesOf
-leaves-none x p q r =
-    whether-by (λ n. n ≡ 0) (eqb x LEAVE) _ _ (λ h. absurd (p (eqb-true x LEAVE h)))
-    (λ _. whether-by (λ n. n ≡ 0) (eqb x FLOAT-SPLIT) _ _ (λ h. absurd (q (eqb-true x FLOAT-SPLIT h)))
-    (λ _. whether-by (λ n. n ≡ 0) (eqb x (FLOAT-SPLIT + ENDS-IN-DOT)) _ _ (λ h. absurd (r (eqb-true x (FLOAT-SPLIT + ENDS-IN-DOT) h))) (λ _. refl)))
-
 leave-one : leavesOf LEAVE ≡ 1
 unfolding leavesOf whether
 leave-one = refl

@@ -8,7 +8,7 @@ use native.Mathlib.Omega.{arith}
 use lib.Dec.{ltb, leb, eqb}
 use lib.ListN.{length, getD, take, drop}
 use borrow.Author.Tests.{ltb-true, ltb-false, leb-true, leb-false, eqb-true}
-use Rattle.base.specs.Base.{whether, bound, Next, again, done, onNext, loops}
+use Rattle.base.specs.Base.{bound, Next, onNext, loops}
 use Rattle.base.proofs.Cases.{whether-by}
 use Rattle.input.specs.SyntaxKind.{ENTER, LEAVE, FLOAT-SPLIT, ENDS-IN-DOT, ERROR, PATH-TYPE}
 use Rattle.input.specs.Input.{refusal}
@@ -18,14 +18,20 @@ use Rattle.operand.specs.Operand.{NO-OPERAND, isEnter, leavesOf, matchTu
 use Rattle.operand.specs.Matching.{entersOf, entered, left, Matches, FindsTheMatch, RefusesWithout}
 use Rattle.operand.proofs.Laws.{end-entered, end-other, part-some, part-none, check-none, check-fine}
 
+-- what is no leave and no split leaves nothing
+pub leaves-none : (x : ℕ) → (x ≡ LEAVE → ⊥) → (x ≡ FLOAT-SPLIT → ⊥) → (x ≡ FLOAT-SPLIT + ENDS-IN-DOT → ⊥) → leavesOf x ≡ 0
+unfolding leavesOf
+leaves-none x p q r =
+    whether-by (λ n. n ≡ 0) (eqb x LEAVE) _ _ (λ h. absurd (p (eqb-true x LEAVE h)))
+    (λ _. whether-by (λ n. n ≡ 0) (eqb x FLOAT-SPLIT) _ _ (λ h. absurd (q (eqb-true x FLOAT-SPLIT h)))
+    (λ _. whether-by (λ n. n ≡ 0) (eqb x (FLOAT-SPLIT + ENDS-IN-DOT)) _ _ (λ h. absurd (r (eqb-true x (FLOAT-SPLIT + ENDS-IN-DOT) h))) (λ _. refl)))
+
 -- a step that enters leaves nothing
 enter-leaves-none : (x : ℕ) → isEnter x ≡ true → leavesOf x ≡ 0
-unfolding isEnter leavesOf
+unfolding isEnter
 enter-leaves-none x h =
     let b = within-bounds (ENTER + ERROR) (ENTER + PATH-TYPE) x h in
-    whether-by (λ n. n ≡ 0) (eqb x LEAVE) _ _ (λ q. absurd (omega (arith, eqb-true x LEAVE q)))
-    (λ _. whether-by (λ n. n ≡ 0) (eqb x FLOAT-SPLIT) _ _ (λ q. absurd (omega (arith, eqb-true x FLOAT-SPLIT q)))
-    (λ _. whether-by (λ n. n ≡ 0) (eqb x (FLOAT-SPLIT + ENDS-IN-DOT)) _ _ (λ q. absurd (omega (arith, eqb-true x (FLOAT-SPLIT + ENDS-IN-DOT) q))) (λ _. refl)))
+    leaves-none x (λ e. omega (arith, b .1)) (λ e. omega (arith, b .1)) (λ e. omega (arith, b .1))
 
 enters-one : (x : ℕ) → isEnter x ≡ true → entersOf x ≡ 1
 unfolding entersOf

@@ -22,7 +22,7 @@ unfoldable pub left : List ℕ → ℕ → ℕ → ℕ
 left steps at zero = 0
 left steps at (suc k) = left steps at k + leavesOf (getD steps (at + k) 0)
 
--- "from that enter to its matching leave": k steps, no more are left than entered before the last of them, and not fewer with it
+-- "from that enter to its matching leave": k steps; before the last of them fewer nodes are left than entered, with it not fewer
 pub record Matches (steps : List ℕ) (at k : ℕ) : Type 0 where
   pub enter : isEnter (getD steps at 0) ≡ true
   pub some : 1 ≤ k

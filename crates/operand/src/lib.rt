@@ -24,7 +24,7 @@ const LAST: u32 = ENTER + PATH_TYPE as u32;
 const DOT_SPLIT: u32 = FLOAT_SPLIT + ENDS_IN_DOT;
 
 // The step at a place, 0 past the end.
-fn step_at(steps: &[u32], at: usize) -> u32
+pub fn step_at(steps: &[u32], at: usize) -> u32
     ensures { λ r. ⌜ r ≡ getD (now (steps .entry)) at 0 ⌝ }
 {
     if at < steps.len() { steps[at] } else { 0 }

@@ -1,4 +1,4 @@
--- What "the exact differences" means, apart from any text: the second list is the first with its differences put in.
+-- What "the exact differences" means, index by index: when `equal` is printed, which indexes print a line, and what the rest is.
 use Prim.Native.Nat.{ℕ, suc, _+_}
 use mathlib.Core.Path.{_≡_}
 use mathlib.Core.Bool.{true}

@@ -4,19 +4,13 @@ use answers::given;
 use answers::line;
 use answers::put_refusal;
 use answers::word;
+use operand::step_at;
 use reader::Parsed;
 ghost use mathlib.Core.Path.{_≡_};
 ghost use Rattle.answers.specs.Text.{Put};
 ghost use Rattle.revision.specs.Revision.{pairText, differText, extraText, stepText, differsText, extrasText, commonOf, restOf, nameOf, sameOf, comparedText, secondText, revisionsText};
 ghost use Prim.Native.Nat.{_+_, _<_, _^_};
-ghost use lib.ListN.{length, getD};
-
-// The step at a place, 0 past the end.
-fn step_at(steps: &[u32], at: usize) -> u32
-    ensures { λ r. ⌜ r ≡ getD (now (steps .entry)) at 0 ⌝ }
-{
-    if at < steps.len() { steps[at] } else { 0 }
-}
+ghost use lib.ListN.{length};
 
 // Two numbers at the end of a line.
 fn put_pair(out: &mut [u8], at: usize, x: u64, y: u64) -> usize

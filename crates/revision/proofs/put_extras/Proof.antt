@@ -12,7 +12,7 @@ use Rattle.revision.proofs.put_extras.Tie as tie
 use Rattle.revision.proofs.put_extras.Reads as reads
 use Rattle.revision.proofs.put_extras.Lts as lts
 use Rattle.revision.proofs.put_extra.Reads as put-extra-reads
-use Rattle.revision.proofs.step_at.Reads as step-at-reads
+use Rattle.operand.proofs.step_at.Reads as step-at-reads
 
 abbrev Inv-loop : tie.InvT-loop
 Inv-loop out₀ at name from rest end₀ i₀ out end i = (length out ≡ length out₀) × (i ≤ length rest) × Put out₀ at (extrasText name from rest i) end out

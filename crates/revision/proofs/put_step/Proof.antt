@@ -6,7 +6,7 @@ use Rattle.revision.proofs.put_step.Tie as tie
 use Rattle.revision.proofs.put_step.Reads as reads
 use Rattle.revision.proofs.put_step.Lts as lts
 use Rattle.revision.proofs.put_differ.Reads as put-differ-reads
-use Rattle.revision.proofs.step_at.Reads as step-at-reads
+use Rattle.operand.proofs.step_at.Reads as step-at-reads
 
 step-at-requires : tie.Need-step-at-requires
 step-at-requires c κs = search needs

@@ -11,7 +11,7 @@ use Rattle.revision.proofs.same.Statement.{statement}
 use Rattle.revision.proofs.same.Tie as tie
 use Rattle.revision.proofs.same.Reads as reads
 use Rattle.revision.proofs.same.Lts as lts
-use Rattle.revision.proofs.step_at.Reads as step-at-reads
+use Rattle.operand.proofs.step_at.Reads as step-at-reads
 
 abbrev Inv-loop : tie.InvT-loop
 Inv-loop first second i₀ i = (length first ≡ length second) × (i ≤ length first) × (sameUpTo first second i ≡ true)
