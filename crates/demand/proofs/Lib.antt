@@ -14,3 +14,5 @@ pub mod Passes
 pub mod Demanded
 pub mod Reading
 pub mod Whole
+pub mod Checks
+pub mod Programs

@@ -3,3 +3,4 @@ pub mod Runs
 pub mod Steps
 pub mod Demand
 pub mod Worked
+pub mod Programs

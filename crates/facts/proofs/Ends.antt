@@ -1,5 +1,5 @@
 -- How the public reader ends on a list that passes the checks: in steps that meet demand 3 of a run of calls, whose position is what was consumed; or in a refusal by 6 or 7, by 4 with too few events, or by 5 with too few steps. By what every reading does, and what every run of calls gives the pass. Assumes nothing.
-use mathlib.Core.Path.{_≡_, refl, sym, subst}
+use mathlib.Core.Path.{_≡_, refl, sym, subst, _∙_}
 use mathlib.Core.List.{List, [], _∷_, map}
 use mathlib.Core.Bool.{Bool, true, false}
 use mathlib.Core.Logic.{_⊎_, inl, inr}
@@ -24,14 +24,15 @@ use Rattle.grammar.specs.Expressions.{exprBp}
 use Rattle.reader.specs.Reader.{Answer, refusing, onProcessed, onRead, topOf, parseOf}
 use Rattle.reader.specs.declared.Parsed.the-variants as parsed
 use Rattle.demand.specs.Lists.{tally}
-use Rattle.demand.specs.Runs.{Call, Place, runOf}
+use Rattle.demand.specs.Runs.{Call, runOf}
 use Rattle.demand.specs.Demand.{seen, stepsIn, Whole}
+use Rattle.demand.specs.Programs.{Run}
 use Rattle.demand.proofs.Whole.{whole, demand-three, only-steps}
 use Rattle.facts.specs.Facts.{Met}
 use Rattle.facts.proofs.Does.{World, Allowed}
 use Rattle.facts.proofs.Postfix.{Read}
 use Rattle.facts.proofs.Reading.{reading}
-use Rattle.facts.proofs.Runs.{Run, program-is-a-run}
+use Rattle.demand.proofs.Programs.{program-is-a-run}
 
 -- no event gives more than a step
 one-step : (es : List Event) → tally stepsIn es ≤ length es
@@ -61,17 +62,14 @@ abbrev pub Right : Tokens → List ℕ → List ℕ → Refusal → Type 0
 Right ts ev st r = Allowed (world ts ev) r ⊎ ((r .number ≡ STEPS-FULL) × (length st < 11 * length (ts .kinds) + 4))
 
 abbrev pub Ends : Tokens → List ℕ → List ℕ → Answer → Type 0
-Ends ts ev st a = elim (a .0) [ parsed.Steps c n ↦ Met ts ev c n (a .2) | parsed.Refused r ↦ Right ts ev st r ]
+Ends ts ev st a = elim (a .0) [ parsed.Steps c n ↦ Met ts ev st c n (a .1) (a .2) | parsed.Refused r ↦ Right ts ev st r ]
 
 module _ (ts : Tokens) (ev st : List ℕ) where
-  -- the pass after a run of calls
-  pass-ends : (cs : List Call) → runOf ts ev cs .state .count ≤ 11 * length (ts .kinds) + 4 → Ends ts ev st (onProcessed (runOf ts ev cs .state .pos .0) (runOf ts ev cs .events) st (processOf (runOf ts ev cs .state) (runOf ts ev cs .events) st))
+  -- the pass after a run of calls at which the reading ended
+  pass-ends : (cs : List Call) (a : Perhaps CompletedMarker) → topOf ts ev ≡ (fine (runOf ts ev cs .state) a, runOf ts ev cs .events) → runOf ts ev cs .state .count ≤ 11 * length (ts .kinds) + 4 → Ends ts ev st (onProcessed (runOf ts ev cs .state .pos .0) (runOf ts ev cs .events) st (processOf (runOf ts ev cs .state) (runOf ts ev cs .events) st))
   unfolding onProcessed refusing
-  pass-ends cs h = go (ltb (length st) (length (w .pass .steps))) refl
+  pass-ends cs a was h = go (ltb (length st) (length (w .pass .steps))) refl
     where
-      z : Place
-      z = runOf ts ev cs
-
       w : Whole ts (runOf ts ev cs)
       w = whole ts ev cs
 
@@ -82,20 +80,22 @@ module _ (ts : Tokens) (ev st : List ℕ) where
       go true b = subst (λ (p : Processed × List ℕ × List ℕ). Ends ts ev st (onProcessed (runOf ts ev cs .state .pos .0) (runOf ts ev cs .events) st p)) (sym (w .pass .gives .full st (ltb-true _ _ b))) (inr (refl, omega (arith, ltb-true (length st) (length (w .pass .steps)) b, few)))
       go false b =
           let q = w .pass .gives .room st (ltb-false _ _ b) in
-          subst (λ (p : Processed × List ℕ × List ℕ). Ends ts ev st (onProcessed (runOf ts ev cs .state .pos .0) (runOf ts ev cs .events) st p)) (sym q) (record { numbers = only-steps ts ev cs st _ _ _ _ q; calls = cs; stands-at = refl; demand = demand-three ts ev cs st _ _ _ _ q })
+          subst (λ (p : Processed × List ℕ × List ℕ). Ends ts ev st (onProcessed (runOf ts ev cs .state .pos .0) (runOf ts ev cs .events) st p)) (sym q)
+          (record { calls = cs; reading = a; was-read = was; stands-at = refl; passed = q; numbers = only-steps ts ev cs st _ _ _ _ q; demand = demand-three ts ev cs st _ _ _ _ q })
 
   -- a reading's reply
-  reply-ends : (x : Reply (Perhaps CompletedMarker)) (e : List ℕ) → ReplyBy (Read (world ts ev) ev fresh) (λ r _. Allowed (world ts ev) r) (x, e) → Kept (Run ts ev) (x, e) → Ends ts ev st (onRead st (x, e))
+  reply-ends : (x : Reply (Perhaps CompletedMarker)) (e : List ℕ) → topOf ts ev ≡ (x, e) → ReplyBy (Read (world ts ev) ev fresh) (λ r _. Allowed (world ts ev) r) (x, e) → Kept (Run ts ev) (x, e) → Ends ts ev st (onRead st (x, e))
   unfolding onRead refusing
-  reply-ends (fine s a) e d k =
+  reply-ends (fine s a) e was d k =
       let f : runOf ts ev (k .calls) .state .count ≤ 11 * length (ts .kinds) + 4 = subst (λ (t : State). t .count ≤ 11 * length (ts .kinds) + 4) (sym (k .state-is)) (omega (arith, d .few, d .on .inside)) in
+      let at : topOf ts ev ≡ (fine (runOf ts ev (k .calls) .state) a, runOf ts ev (k .calls) .events) = was ∙ rw (k .state-is, k .events-are) in
       subst (λ (l : List ℕ). Ends ts ev st (onProcessed (s .pos .0) l st (processOf s l st))) (k .events-are)
-      (subst (λ (t : State). Ends ts ev st (onProcessed (t .pos .0) (runOf ts ev (k .calls) .events) st (processOf t (runOf ts ev (k .calls) .events) st))) (k .state-is) (pass-ends (k .calls) f))
-  reply-ends (bad r) e d k = inl d
+      (subst (λ (t : State). Ends ts ev st (onProcessed (t .pos .0) (runOf ts ev (k .calls) .events) st (processOf t (runOf ts ev (k .calls) .events) st))) (k .state-is) (pass-ends (k .calls) a at f))
+  reply-ends (bad r) e was d k = inl d
 
   pub reader-ends : tokensOf ts ≡ Fine → Ends ts ev st (parseOf ts ev st)
   unfolding parseOf onChecked topOf
   reader-ends q =
       let d = reading (world ts ev) depthLimit 1 (omega arith) fresh ev (record { inside = omega arith; low = omega arith; top = omega arith; room = refl; kept = λ i _. refl }) (omega arith) .does in
       subst (λ (c : Checked). Ends ts ev st (onChecked c (λ _. onRead st (run ts (exprBp depthLimit ts 1) fresh ev)) (λ r. (parsed.Refused r, ev, st)))) (sym q)
-      (reply-ends (run ts (exprBp depthLimit ts 1) fresh ev .0) (run ts (exprBp depthLimit ts 1) fresh ev .1) d (program-is-a-run ts q ev (exprBp depthLimit ts 1)))
+      (reply-ends (run ts (exprBp depthLimit ts 1) fresh ev .0) (run ts (exprBp depthLimit ts 1) fresh ev .1) refl d (program-is-a-run ts q ev (exprBp depthLimit ts 1)))

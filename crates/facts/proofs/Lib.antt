@@ -4,8 +4,6 @@ pub mod Present
 pub mod Atoms
 pub mod Postfix
 pub mod Reading
-pub mod Checks
-pub mod Runs
 pub mod Ends
 pub mod Theorems
 pub mod Agree

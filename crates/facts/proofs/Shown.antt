@@ -17,8 +17,7 @@ use Rattle.demand.specs.Lists.{tally}
 use Rattle.demand.specs.Steps.{Step, enter, leave, parted, codeOf, stepFrom, enters, leaves}
 use Rattle.operand.specs.Operand.{isEnter, leavesOf, endOf}
 use Rattle.operand.specs.Matching.{entersOf, entered, left}
-use Rattle.operand.proofs.Laws.{check-fine}
-use Rattle.operand.proofs.Matching.{leaves-none, entered-more, left-more, entered-none, left-none, unmatched}
+use Rattle.operand.proofs.Matching.{leaves-none, entered-more, left-more, entered-none, left-none, unmatched, end-is-a-match}
 use Rattle.facts.specs.Facts.{EveryEnterIsShown}
 use Rattle.facts.proofs.Theorems.{meets-demand-three}
 
@@ -112,6 +111,6 @@ matched-within l at q even low x z =
     whole (y ∷ l) = omega (arith, whole l)
 
 pub every-enter-is-shown : EveryEnterIsShown
-every-enter-is-shown ts ev st consumed n at p h x =
+every-enter-is-shown ts ev st consumed n at p x =
     let m = meets-demand-three ts ev st consumed n p in
-    sym (check-fine _ at refl (λ z. matched-within _ at (m .numbers) (m .demand .even) (m .demand .within at) x z))
+    end-is-a-match _ at x (λ z. matched-within _ at (m .numbers) (m .demand .even) (m .demand .within at) x z)

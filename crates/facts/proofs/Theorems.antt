@@ -33,7 +33,7 @@ use Rattle.facts.specs.Facts.{TakesAToken, NeverGoesBack, InRange, Refus
 use Rattle.facts.proofs.Does.{World, Allowed}
 use Rattle.facts.proofs.Postfix.{Read}
 use Rattle.facts.proofs.Reading.{reading}
-use Rattle.facts.proofs.Checks.{By1-3, tokens-by, tokens-few}
+use Rattle.demand.proofs.Checks.{By1-3, tokens-by, tokens-few}
 use Rattle.facts.proofs.Ends.{Right, Ends, reader-ends}
 
 sorted : (W : World) (r : Refusal) → Allowed W r → (r .number ≡ EVENTS-FULL) ⊎ ((r .number ≡ TOO-DEEP) ⊎ (r .number ≡ OUTSIDE-CUT))
@@ -154,8 +154,8 @@ steps-width [] h = refl
 steps-width (x ∷ l) h = tally-append (tokenIn (stepFrom x)) (gather tokenIn (map stepFrom l)) ∙ rw (step-width x (heads h .0), steps-width l (heads h .1))
 
 -- what was consumed, from demand 3
-met-width : (ts : Tokens) (ev : List ℕ) (c n : ℕ) (st : List ℕ) → Met ts ev c n st → c ≡ widthOfSteps (take n st)
-met-width ts ev c n st m = sym (m .stands-at) ∙ sym (m .demand .widths) ∙ ap (λ (l : List Tok). tally widthIn l) (sym (m .demand .tokens)) ∙ steps-width (take n st) (m .numbers)
+met-width : (ts : Tokens) (ev st : List ℕ) (c n : ℕ) (ev′ st′ : List ℕ) → Met ts ev st c n ev′ st′ → c ≡ widthOfSteps (take n st′)
+met-width ts ev st c n ev′ st′ m = sym (m .stands-at) ∙ sym (m .demand .widths) ∙ ap (λ (l : List Tok). tally widthIn l) (sym (m .demand .tokens)) ∙ steps-width (take n st′) (m .numbers)
 
 -- room
 enough : (ts : Tokens) (ev : List ℕ) (room : ℕ) → tokensOf ts ≡ checked.Fine → room ≤ length ev → room ≤ 11 * length (ts .kinds) + 4 → room ≤ capacityOf ev
@@ -175,7 +175,7 @@ meets-demand-three ts ev st c n q =
     (λ r p. absurd (steps-or (sym (refused-at-once ts ev st r p) ∙ q)))
 
 pub consumed-is-width : ConsumedIsWidth
-consumed-is-width ts ev st c n q = met-width ts ev c n (parseOf ts ev st .2) (meets-demand-three ts ev st c n q)
+consumed-is-width ts ev st c n q = met-width ts ev st c n (parseOf ts ev st .1) (parseOf ts ev st .2) (meets-demand-three ts ev st c n q)
 
 -- any room from 11n + 4 on
 module _ (room : ℕ → ℕ) (l : (n : ℕ) → 11 * n + 4 ≤ room n) where

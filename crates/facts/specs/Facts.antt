@@ -11,17 +11,20 @@ use Rattle.input.specs.SyntaxKind.{EVENTS-FULL, STEPS-FULL, TOO-DEEP, OUTSIDE-C
 use Rattle.input.specs.Input.{Tokens, tokensOf}
 use Rattle.input.specs.declared.Refusal.{Refusal}
 use Rattle.input.specs.declared.Checked.the-variants as checked
-use Rattle.event.specs.Event.{capacityOf}
+use Rattle.event.specs.Event.{capacityOf, fresh}
 use Rattle.event.specs.declared.State.{State}
 use Rattle.parser.specs.declared.CompletedMarker.{CompletedMarker}
 use Rattle.parser.specs.Prog.{fine, bad, run, Perhaps, some, none}
+use Rattle.process.specs.Process.{processOf}
+use Rattle.process.specs.declared.Processed.the-variants as processed
 use Rattle.grammar.specs.Expressions.{exprBp}
-use Rattle.reader.specs.Reader.{parseOf}
+use Rattle.reader.specs.Reader.{topOf, parseOf}
 use Rattle.reader.specs.declared.Parsed.the-variants as parsed
 use Rattle.demand.specs.Runs.{Call, runOf}
 use Rattle.demand.specs.Steps.{codeOf, stepFrom}
 use Rattle.demand.specs.Demand.{Demand}
-use Rattle.operand.specs.Operand.{isEnter, checkOf}
+use Rattle.operand.specs.Operand.{isEnter}
+use Rattle.operand.specs.Matching.{Shown}
 
 -- Readings at strength b, where so many may still be opened.
 
@@ -70,15 +73,18 @@ widthOfSteps (x ∷ l) = widthOfStep x + widthOfSteps l
 abbrev pub ConsumedIsWidth : Type 0
 ConsumedIsWidth = (ts : Tokens) (ev st : List ℕ) (consumed n : ℕ) → parseOf ts ev st .0 ≡ parsed.Steps consumed n → consumed ≡ widthOfSteps (take n (parseOf ts ev st .2))
 
--- each number is that of a step; the steps are those of a run of machine calls, which stands at what was consumed, and meet demand 3
-pub record Met (ts : Tokens) (ev : List ℕ) (consumed n : ℕ) (st : List ℕ) : Type 0 where
-  pub numbers : take n st ≡ map codeOf (map stepFrom (take n st))
+-- What is behind an answer of so many tokens and steps, with the lists that it leaves, over lent lists ev and st: the reading ended as a run of machine calls does, at what was consumed; the steps are what the pass gives of the state and events at which that run stands; each number is that of a step, and the steps meet demand 3.
+pub record Met (ts : Tokens) (ev st : List ℕ) (consumed n : ℕ) (ev′ st′ : List ℕ) : Type 0 where
   pub calls : List Call
+  pub reading : Perhaps CompletedMarker
+  pub was-read : topOf ts ev ≡ (fine (runOf ts ev calls .state) reading, runOf ts ev calls .events)
   pub stands-at : runOf ts ev calls .state .pos .0 ≡ consumed
-  pub demand : Demand ts (runOf ts ev calls) (map stepFrom (take n st))
+  pub passed : processOf (runOf ts ev calls .state) (runOf ts ev calls .events) st ≡ (processed.Steps n fresh, ev′, st′)
+  pub numbers : take n st′ ≡ map codeOf (map stepFrom (take n st′))
+  pub demand : Demand ts (runOf ts ev calls) (map stepFrom (take n st′))
 
 abbrev pub MeetsDemandThree : Type 0
-MeetsDemandThree = (ts : Tokens) (ev st : List ℕ) (consumed n : ℕ) → parseOf ts ev st .0 ≡ parsed.Steps consumed n → Met ts ev consumed n (parseOf ts ev st .2)
+MeetsDemandThree = (ts : Tokens) (ev st : List ℕ) (consumed n : ℕ) → parseOf ts ev st .0 ≡ parsed.Steps consumed n → Met ts ev st consumed n (parseOf ts ev st .1) (parseOf ts ev st .2)
 
 -- room for so many events and as many steps, by the number of tokens, is never refused by 4 or 5
 abbrev pub RoomSuffices : (ℕ → ℕ) → Type 0
@@ -96,6 +102,6 @@ roomOf n = 16 * n + 16
 abbrev pub leastOf : ℕ → ℕ
 leastOf n = 11 * n + 4
 
--- "Show me one operand", of the reader's own steps: every enter of an answer has its operand
+-- "Show me one operand", of the reader's own steps: of every enter of an answer the part that matches is shown, and nothing is refused
 abbrev pub EveryEnterIsShown : Type 0
-EveryEnterIsShown = (ts : Tokens) (ev st : List ℕ) (consumed n at : ℕ) → parseOf ts ev st .0 ≡ parsed.Steps consumed n → at < n → isEnter (getD (take n (parseOf ts ev st .2)) at 0) ≡ true → checkOf (take n (parseOf ts ev st .2)) at ≡ checked.Fine
+EveryEnterIsShown = (ts : Tokens) (ev st : List ℕ) (consumed n at : ℕ) → parseOf ts ev st .0 ≡ parsed.Steps consumed n → isEnter (getD (take n (parseOf ts ev st .2)) at 0) ≡ true → Shown (take n (parseOf ts ev st .2)) at

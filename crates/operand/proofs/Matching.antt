@@ -6,16 +6,18 @@ use mathlib.Core.Logic.{_⊎_, inl, inr, ⊎-elim}
 use Prim.Native.Nat.{ℕ, zero, suc, _+_, _-_, _≤_, _<_}
 use native.Mathlib.Omega.{arith}
 use lib.Dec.{ltb, leb, eqb}
-use lib.ListN.{length, getD, take, drop}
-use borrow.Author.Tests.{ltb-true, ltb-false, leb-true, leb-false, eqb-true}
+use lib.ListN.{length, getD, take, drop, length-take, length-drop}
+use borrow.Author.Tests.{ltb-true, ltb-false, leb-true, leb-false, eqb-true, eq-eqb}
 use Rattle.base.specs.Base.{bound, Next, onNext, loops}
 use Rattle.base.proofs.Cases.{whether-by}
 use Rattle.input.specs.SyntaxKind.{ENTER, LEAVE, FLOAT-SPLIT, ENDS-IN-DOT, ERROR, PATH-TYPE}
 use Rattle.input.specs.Input.{refusal}
+use Rattle.input.specs.declared.Refusal.{Refusal}
+use Rattle.input.specs.declared.Checked.{Checked}
 use Rattle.input.specs.declared.Checked.the-variants.{Fine, Refused}
 use Rattle.input.proofs.Laws.{within-bounds, not-both, true-or-false}
 use Rattle.operand.specs.Operand.{NO-OPERAND, isEnter, leavesOf, matchTurn, matchOf, endOf, operandOf, checkOf}
-use Rattle.operand.specs.Matching.{entersOf, entered, left, Matches, FindsTheMatch, RefusesWithout}
+use Rattle.operand.specs.Matching.{entersOf, entered, left, Matches, FindsTheMatch, RefusesWithout, Shown, ShowsOrRefuses, EmptyWhereRefused}
 use Rattle.operand.proofs.Laws.{end-entered, end-other, part-some, part-none, check-none, check-fine}
 
 -- what is no leave and no split leaves nothing
@@ -185,3 +187,41 @@ unmatched steps at x e = go (found steps at x)
     go : Found steps at x (matchOf steps at) → (j : ℕ) → 1 ≤ j → at + j ≤ length steps → left steps at j < entered steps at j
     go (inl f) = f .1
     go (inr f) = absurd (omega (arith, f .0, e, end-matched steps at x))
+
+-- an end that is found is a match
+pub end-is-a-match : (steps : List ℕ) (at : ℕ) → isEnter (getD steps at 0) ≡ true → (endOf steps at ≡ 0 → ⊥) → Shown steps at
+end-is-a-match steps at x e = go (found steps at x)
+  where
+    go : Found steps at x (matchOf steps at) → Shown steps at
+    go (inl f) = absurd (e (sym (end-matched steps at x) ∙ f .0))
+    go (inr f) = let m = finds-the-match steps at (matchOf steps at - at) (f .1) in record { many = matchOf steps at - at; matches = f .1; part = m .0; is-fine = m .1 }
+
+pub shows-or-refuses : ShowsOrRefuses
+shows-or-refuses steps at = go (isEnter (getD steps at 0)) refl
+  where
+    refused : endOf steps at ≡ 0 → Shown steps at ⊎ ((operandOf steps at ≡ []) × (checkOf steps at ≡ Refused (refusal NO-OPERAND at)))
+    refused e = inr (sym (part-none steps at (sym e) (omega arith)), sym (check-none steps at (sym e) refl))
+
+    end : (x : isEnter (getD steps at 0) ≡ true) (b : Bool) → eqb (endOf steps at) 0 ≡ b → Shown steps at ⊎ ((operandOf steps at ≡ []) × (checkOf steps at ≡ Refused (refusal NO-OPERAND at)))
+    end x true q = refused (eqb-true _ _ q)
+    end x false q = inl (end-is-a-match steps at x (λ e. not-both (eqb (endOf steps at) 0) (eq-eqb _ _ e) q))
+
+    go : (b : Bool) → isEnter (getD steps at 0) ≡ b → Shown steps at ⊎ ((operandOf steps at ≡ []) × (checkOf steps at ≡ Refused (refusal NO-OPERAND at)))
+    go true x = end x (eqb (endOf steps at) 0) refl
+    go false x = refused (sym (end-other steps at refl refl x))
+
+-- a part that is shown has a step at least
+some-part : (steps : List ℕ) (at : ℕ) → Shown steps at → operandOf steps at ≡ [] → ⊥
+some-part steps at s q =
+    let long : length (take (s .many) (drop at steps)) ≡ 0 = ap length (sym (s .part) ∙ q) in
+    omega (arith, s .matches .some, s .matches .inside, simp (length-take, length-drop) at long)
+
+fine-or-refused : {c : Checked} {r : Refusal} → c ≡ Fine → c ≡ Refused r → ⊥
+fine-or-refused p q = let z : _≡_ {A = ℕ} 0 1 = cc in omega arith
+
+pub empty-where-refused : EmptyWhereRefused
+empty-where-refused steps at = go (shows-or-refuses steps at)
+  where
+    go : Shown steps at ⊎ ((operandOf steps at ≡ []) × (checkOf steps at ≡ Refused (refusal NO-OPERAND at))) → (operandOf steps at ≡ [] → checkOf steps at ≡ Refused (refusal NO-OPERAND at)) × ((r : Refusal) → checkOf steps at ≡ Refused r → operandOf steps at ≡ [])
+    go (inl s) = ((λ q. absurd (some-part steps at s q)), (λ r q. absurd (fine-or-refused (s .is-fine) q)))
+    go (inr e) = ((λ _. e .1), (λ r _. e .0))

@@ -3,9 +3,11 @@ use Prim.Native.Nat.{ℕ, zero, suc, _+_, _≤_, _<_}
 use mathlib.Core.Path.{_≡_}
 use mathlib.Core.Bool.{true}
 use mathlib.Core.List.{List, []}
+use mathlib.Core.Logic.{_⊎_}
 use lib.ListN.{length, getD, take, drop}
 use Rattle.base.specs.Base.{whether}
 use Rattle.input.specs.Input.{refusal}
+use Rattle.input.specs.declared.Refusal.{Refusal}
 use Rattle.input.specs.declared.Checked.the-variants.{Fine, Refused}
 use Rattle.operand.specs.Operand.{NO-OPERAND, isEnter, leavesOf, operandOf, checkOf}
 
@@ -37,3 +39,18 @@ FindsTheMatch = (steps : List ℕ) (at k : ℕ) → Matches steps at k → (oper
 -- "An index that isn't an enter, or an enter never matched, gets an empty part and refusal 16 with that index as place."
 abbrev pub RefusesWithout : Type 0
 RefusesWithout = (steps : List ℕ) (at : ℕ) → ((k : ℕ) → Matches steps at k → ⊥) → (operandOf steps at ≡ []) × (checkOf steps at ≡ Refused (refusal NO-OPERAND at))
+
+-- a part that is shown: the stretch that matches, and no refusal
+pub record Shown (steps : List ℕ) (at : ℕ) : Type 0 where
+  pub many : ℕ
+  pub matches : Matches steps at many
+  pub part : operandOf steps at ≡ take many (drop at steps)
+  pub is-fine : checkOf steps at ≡ Fine
+
+-- the part is shown, or it is empty and 16 is given
+abbrev pub ShowsOrRefuses : Type 0
+ShowsOrRefuses = (steps : List ℕ) (at : ℕ) → Shown steps at ⊎ ((operandOf steps at ≡ []) × (checkOf steps at ≡ Refused (refusal NO-OPERAND at)))
+
+-- and it is empty exactly where 16 is given
+abbrev pub EmptyWhereRefused : Type 0
+EmptyWhereRefused = (steps : List ℕ) (at : ℕ) → (operandOf steps at ≡ [] → checkOf steps at ≡ Refused (refusal NO-OPERAND at)) × ((r : Refusal) → checkOf steps at ≡ Refused r → operandOf steps at ≡ [])

@@ -13,8 +13,8 @@ use Rattle.input.specs.Input.{Tokens, tokenLimit, widthLimit, isRaw, isJoint, f
 use Rattle.input.specs.declared.Refusal.{Refusal}
 use Rattle.input.specs.declared.Checked.{Checked}
 use Rattle.input.specs.declared.Checked.the-variants.{Fine, Refused}
+use Rattle.input.proofs.Laws.{not-both}
 use Rattle.demand.proofs.Tokens.{lengths-fine as few-tokens}
-use Rattle.facts.proofs.Does.{clash}
 
 pub no-both : {r : Refusal} → Fine ≡ Refused r → ⊥
 no-both q = let z : _≡_ {A = ℕ} 0 1 = cc in omega arith
@@ -52,7 +52,7 @@ module _ (good : ℕ → Bool) (l : List ℕ) where
   good-stretch at (suc k) h =
       whether-by (λ x. at + suc k ≤ x) (good (getD l at 0)) (λ _. firstOff good l (at + 1) k) (λ _. at)
       (λ _. omega (arith, good-stretch (at + 1) k (λ i a b. h i (omega arith) (omega arith))))
-      (λ q. absurd (clash (h at (omega arith) (omega arith)) q))
+      (λ q. absurd (not-both (good (getD l at 0)) (h at (omega arith) (omega arith)) q))
 
 -- the checks of a stretch
 module _ (ts : Tokens) (at k : ℕ) where

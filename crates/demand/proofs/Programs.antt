@@ -10,6 +10,7 @@ use Rattle.base.specs.Base.{whether}
 use Rattle.base.proofs.Cases.{whether-by}
 use Rattle.input.specs.SyntaxKind.{UNSOUND}
 use Rattle.input.specs.Input.{Tokens, tokenLimit, tokensOf, lengthsOf, onChecked, refusal}
+use Rattle.input.proofs.Laws.{not-both}
 use Rattle.input.specs.declared.Refusal.{Refusal}
 use Rattle.input.specs.declared.Checked.{Checked}
 use Rattle.input.specs.declared.Checked.the-variants.{Fine, Refused}
@@ -18,7 +19,7 @@ use Rattle.event.specs.declared.State.{State}
 use Rattle.process.specs.Process.{soundOf}
 use Rattle.parser.specs.Calls.{startOf, completeOf, abandonOf, precedeOf, extendOf, eatOf, bumpAnyOf, errorOf, splitOf}
 use Rattle.parser.specs.Public.{rangeOf, lookedOf, calling, startCall, completeCall, abandonCall, precedeCall, extendCall, eatCall, bumpAnyCall, errorCall, splitCall}
-use Rattle.parser.specs.Prog.{Prog, run}
+use Rattle.parser.specs.Prog.{Prog, Ran, run}
 use Rattle.parser.proofs.Moves.{Keeps, Kept, run-keeps, OpenedBy, ClosedBy, MovedBy, TakenBy, PartedBy}
 use Rattle.parser.specs.declared.Opened.{Opened}
 use Rattle.parser.specs.declared.Opened.the-variants as opened
@@ -30,16 +31,10 @@ use Rattle.parser.specs.declared.Taken.{Taken}
 use Rattle.parser.specs.declared.Taken.the-variants as taken
 use Rattle.parser.specs.declared.Parted.{Parted}
 use Rattle.parser.specs.declared.Parted.the-variants as parted
 use Rattle.demand.specs.Runs.{Call, starts, completes, abandons, precedes, extends, takes, takesAny, errs, splits, Heard, accepted, declined, openedAs, closedAs, movedAs, takenAs, partedAs, heard, callOf, Place, stepTo, runOn, runOf}
+use Rattle.demand.specs.Programs.{Run, ProgramsAreRuns, ProgramsAreSound}
 use Rattle.demand.proofs.Whole.{whole}
-use Rattle.facts.proofs.Does.{clash}
-use Rattle.facts.proofs.Checks.{then-fine, lengths-fine, bytes-fine}
-
--- a run of calls over ts and ev that stands at s and e
-pub record Run (ts : Tokens) (ev : List ℕ) (s : State) (e : List ℕ) : Type 0 where
-  pub calls : List Call
-  pub state-is : runOf ts ev calls .state ≡ s
-  pub events-are : runOf ts ev calls .events ≡ e
+use Rattle.demand.proofs.Checks.{then-fine, lengths-fine, bytes-fine}
 
 -- one call more
 run-snoc : (ts : Tokens) (z : Place) (cs : List Call) (c : Call) → runOn ts z (cs ++ (c ∷ [])) ≡ stepTo ts (runOn ts z cs) c (callOf ts (runOn ts z cs .state) (runOn ts z cs .events) c)
@@ -89,14 +84,14 @@ module _ (ts : Tokens) (ev : List ℕ) (s : State) where
 
 sound-range : (s : State) (e : List ℕ) → soundOf s e ≡ true → inRange tokenLimit s e ≡ true
 unfolding soundOf
-sound-range s e = whether-by (λ b. b ≡ true → inRange tokenLimit s e ≡ true) (inRange tokenLimit s e) _ _ (λ q _. q) (λ _ q. absurd (clash q refl))
+sound-range s e = whether-by (λ b. b ≡ true → inRange tokenLimit s e ≡ true) (inRange tokenLimit s e) _ _ (λ q _. q) (λ _ q. absurd (not-both _ q refl))
 
 -- a position within the tokens is in their range
 nearer-range : (s : State) (e : List ℕ) (n : ℕ) → inRange tokenLimit s e ≡ true → s .pos .0 ≤ n → inRange n s e ≡ true
 unfolding inRange
 nearer-range s e n q h =
     whether-by (λ b. b ≡ true) (leb (s .count) (capacityOf e)) (λ _. leb (s .pos .0) n) (λ _. false) (λ _. le-leb (s .pos .0) n h)
-    (λ p. absurd (clash q (whether-by (λ b. b ≡ false) (leb (s .count) (capacityOf e)) (λ _. leb (s .pos .0) tokenLimit) (λ _. false) (λ z. absurd (clash z p)) (λ _. refl))))
+    (λ p. absurd (not-both _ q (whether-by (λ b. b ≡ false) (leb (s .count) (capacityOf e)) (λ _. leb (s .pos .0) tokenLimit) (λ _. false) (λ z. absurd (not-both _ z p)) (λ _. refl))))
 
 -- a run stands at sound events, within the tokens
 module _ {ts : Tokens} {ev : List ℕ} {s : State} {e : List ℕ} (r : Run ts ev s e) where
@@ -108,13 +103,13 @@ module _ {ts : Tokens} {ev : List ℕ} {s : State} {e : List ℕ} (r : Run ts ev
 
   range-fine : rangeOf tokenLimit s e ≡ Fine
   unfolding rangeOf
-  range-fine = whether-by (λ x. x ≡ Fine) (inRange tokenLimit s e) _ _ (λ _. refl) (λ q. absurd (clash (sound-range s e run-sound) q))
+  range-fine = whether-by (λ x. x ≡ Fine) (inRange tokenLimit s e) _ _ (λ _. refl) (λ q. absurd (not-both _ (sound-range s e run-sound) q))
 
   looked-fine : tokensOf ts ≡ Fine → lookedOf ts s e ≡ Fine
   unfolding lookedOf rangeOf
   looked-fine fine =
       then-fine (lengthsOf ts) _ (lengths-fine ts fine)
-      (then-fine (whether (inRange (length (ts .kinds)) s e) (λ _. Fine) (λ _. Refused (refusal UNSOUND 0))) _ (whether-by (λ x. x ≡ Fine) (inRange (length (ts .kinds)) s e) _ _ (λ _. refl) (λ q. absurd (clash (nearer-range s e (length (ts .kinds)) (sound-range s e run-sound) run-inside) q)))
+      (then-fine (whether (inRange (length (ts .kinds)) s e) (λ _. Fine) (λ _. Refused (refusal UNSOUND 0))) _ (whether-by (λ x. x ≡ Fine) (inRange (length (ts .kinds)) s e) _ _ (λ _. refl) (λ q. absurd (not-both _ (nearer-range s e (length (ts .kinds)) (sound-range s e run-sound) run-inside) q)))
       (bytes-fine ts fine (s .pos .0) run-inside))
 
 call-fine : {A : Type 0} (c : Checked) (refused : Refusal → A) (ev : List ℕ) (work : Unit {0} → A × List ℕ) → c ≡ Fine → calling c refused ev work ≡ work tt
@@ -142,3 +137,9 @@ module _ (ts : Tokens) (fine : tokensOf ts ≡ Fine) (ev : List ℕ) where
   pub program-is-a-run : {A : Type 0} (p : Prog A) → Kept (Run ts ev) (run ts p fresh ev)
   unfolding runOf runOn
   program-is-a-run p = run-keeps ts (Run ts ev) keeps-run p fresh ev (record { calls = []; state-is = refl; events-are = refl })
+
+pub programs-are-runs : ProgramsAreRuns
+programs-are-runs A ts ev q p s a e h = subst (λ (r : Ran A). Kept (Run ts ev) r) h (program-is-a-run ts q ev p)
+
+pub programs-are-sound : ProgramsAreSound
+programs-are-sound A ts ev q p s a e h = run-sound (programs-are-runs A ts ev q p s a e h)
