@@ -26,10 +26,10 @@ use parser::inner::precede;
 use parser::inner::start;
 
 // Takes a kind that is at hand.
-pub fn bump(kinds: &[u8], joints: &[u8], events: &mut [u64], state: State, kind: u8) -> Moved
-    ensures { λ r. ⌜ (movedReply r, now (events .exit)) ≡ run (lent (now (kinds .entry)) (now (joints .entry))) (bump kind) state (now (events .entry)) ⌝ }
+pub fn bump(kinds: &&[u8], joints: &&[u8], events: &mut [u64], state: State, kind: u8) -> Moved
+    ensures { λ r. ⌜ (movedReply r, now (events .exit)) ≡ run (lent (now (now (kinds .entry))) (now (now (joints .entry)))) (bump kind) state (now (events .entry)) ⌝ }
 {
-    match eat(kinds, joints, events, state, kind) {
+    match eat(*kinds, *joints, events, state, kind) {
         Taken::Took(s) => Moved::On(s),
         Taken::No => Moved::Refused(Refusal {
             number: UNFIT,
@@ -40,8 +40,8 @@ pub fn bump(kinds: &[u8], joints: &[u8], events: &mut [u64], state: State, kind:
 }
 
 // A start and the kind at hand.
-pub fn begin(kinds: &[u8], joints: &[u8], events: &mut [u64], state: State, kind: u8) -> Opened
-    ensures { λ r. ⌜ (openedReply r, now (events .exit)) ≡ run (lent (now (kinds .entry)) (now (joints .entry))) (begin kind) state (now (events .entry)) ⌝ }
+pub fn begin(kinds: &&[u8], joints: &&[u8], events: &mut [u64], state: State, kind: u8) -> Opened
+    ensures { λ r. ⌜ (openedReply r, now (events .exit)) ≡ run (lent (now (now (kinds .entry))) (now (now (joints .entry)))) (begin kind) state (now (events .entry)) ⌝ }
 {
     match start(events, state) {
         Opened::Open(s1, m) => match bump(kinds, joints, events, s1, kind) {
@@ -54,14 +54,14 @@ pub fn begin(kinds: &[u8], joints: &[u8], events: &mut [u64], state: State, kind
 
 // A start before a closed node, and the kind at hand.
 pub fn lead(
-    kinds: &[u8],
-    joints: &[u8],
+    kinds: &&[u8],
+    joints: &&[u8],
     events: &mut [u64],
     state: State,
     m: CompletedMarker,
     kind: u8,
 ) -> Opened
-    ensures { λ r. ⌜ (openedReply r, now (events .exit)) ≡ run (lent (now (kinds .entry)) (now (joints .entry))) (lead m kind) state (now (events .entry)) ⌝ }
+    ensures { λ r. ⌜ (openedReply r, now (events .exit)) ≡ run (lent (now (now (kinds .entry))) (now (now (joints .entry)))) (lead m kind) state (now (events .entry)) ⌝ }
 {
     match precede(events, state, m) {
         Opened::Open(s1, o) => match bump(kinds, joints, events, s1, kind) {
@@ -74,16 +74,16 @@ pub fn lead(
 
 // Takes a kind, or gives an error where it is missing.
 pub fn expect(
-    kinds: &[u8],
-    joints: &[u8],
+    kinds: &&[u8],
+    joints: &&[u8],
     events: &mut [u64],
     state: State,
     kind: u8,
     code: u8,
 ) -> Moved
-    ensures { λ r. ⌜ (movedReply r, now (events .exit)) ≡ run (lent (now (kinds .entry)) (now (joints .entry))) (expect kind code) state (now (events .entry)) ⌝ }
+    ensures { λ r. ⌜ (movedReply r, now (events .exit)) ≡ run (lent (now (now (kinds .entry))) (now (now (joints .entry)))) (expect kind code) state (now (events .entry)) ⌝ }
 {
-    match eat(kinds, joints, events, state, kind) {
+    match eat(*kinds, *joints, events, state, kind) {
         Taken::Took(s) => Moved::On(s),
         Taken::No => error(events, state, code),
         Taken::Refused(r) => Moved::Refused(r),
@@ -92,8 +92,8 @@ pub fn expect(
 
 // An expected kind, and the node's end.
 pub fn closing(
-    kinds: &[u8],
-    joints: &[u8],
+    kinds: &&[u8],
+    joints: &&[u8],
     events: &mut [u64],
     state: State,
     kind: u8,
@@ -101,7 +101,7 @@ pub fn closing(
     m: Marker,
     node: u8,
 ) -> Closed
-    ensures { λ r. ⌜ (closedReply r, now (events .exit)) ≡ run (lent (now (kinds .entry)) (now (joints .entry))) (closing kind code m node) state (now (events .entry)) ⌝ }
+    ensures { λ r. ⌜ (closedReply r, now (events .exit)) ≡ run (lent (now (now (kinds .entry))) (now (now (joints .entry)))) (closing kind code m node) state (now (events .entry)) ⌝ }
 {
     match expect(kinds, joints, events, state, kind, code) {
         Moved::On(s1) => complete(events, s1, m, node),
@@ -110,11 +110,11 @@ pub fn closing(
 }
 
 // One token as a node. e.g. 92
-pub fn leaf(kinds: &[u8], joints: &[u8], events: &mut [u64], state: State, node: u8) -> Closed
-    ensures { λ r. ⌜ (closedReply r, now (events .exit)) ≡ run (lent (now (kinds .entry)) (now (joints .entry))) (leaf node) state (now (events .entry)) ⌝ }
+pub fn leaf(kinds: &&[u8], joints: &&[u8], events: &mut [u64], state: State, node: u8) -> Closed
+    ensures { λ r. ⌜ (closedReply r, now (events .exit)) ≡ run (lent (now (now (kinds .entry))) (now (now (joints .entry)))) (leaf node) state (now (events .entry)) ⌝ }
 {
     match start(events, state) {
-        Opened::Open(s1, m) => match bump_any(kinds, joints, events, s1) {
+        Opened::Open(s1, m) => match bump_any(*kinds, *joints, events, s1) {
             Taken::Took(s2) => complete(events, s2, m, node),
             Taken::No => Closed::Refused(Refusal {
                 number: UNFIT,
@@ -126,8 +126,8 @@ pub fn leaf(kinds: &[u8], joints: &[u8], events: &mut [u64], state: State, node:
     }
 }
 
-fn begin_error(kinds: &[u8], joints: &[u8], events: &mut [u64], state: State) -> Opened
-    ensures { λ r. ⌜ (openedReply r, now (events .exit)) ≡ run (lent (now (kinds .entry)) (now (joints .entry))) (beginError) state (now (events .entry)) ⌝ }
+fn begin_error(kinds: &&[u8], joints: &&[u8], events: &mut [u64], state: State) -> Opened
+    ensures { λ r. ⌜ (openedReply r, now (events .exit)) ≡ run (lent (now (now (kinds .entry))) (now (now (joints .entry)))) (beginError) state (now (events .entry)) ⌝ }
 {
     match start(events, state) {
         Opened::Open(s1, m) => match error(events, s1, EXPECTED_EXPRESSION) {
@@ -139,11 +139,11 @@ fn begin_error(kinds: &[u8], joints: &[u8], events: &mut [u64], state: State) ->
 }
 
 // An ERROR node with the error and one token, none at the end.
-pub fn err_and_bump(kinds: &[u8], joints: &[u8], events: &mut [u64], state: State) -> Moved
-    ensures { λ r. ⌜ (movedReply r, now (events .exit)) ≡ run (lent (now (kinds .entry)) (now (joints .entry))) (errAndBump) state (now (events .entry)) ⌝ }
+pub fn err_and_bump(kinds: &&[u8], joints: &&[u8], events: &mut [u64], state: State) -> Moved
+    ensures { λ r. ⌜ (movedReply r, now (events .exit)) ≡ run (lent (now (now (kinds .entry))) (now (now (joints .entry)))) (errAndBump) state (now (events .entry)) ⌝ }
 {
     match begin_error(kinds, joints, events, state) {
-        Opened::Open(s1, m) => match bump_any(kinds, joints, events, s1) {
+        Opened::Open(s1, m) => match bump_any(*kinds, *joints, events, s1) {
             Taken::Took(s2) => ended(complete(events, s2, m, ERROR)),
             Taken::No => ended(complete(events, s1, m, ERROR)),
             Taken::Refused(r) => Moved::Refused(r),
@@ -153,11 +153,11 @@ pub fn err_and_bump(kinds: &[u8], joints: &[u8], events: &mut [u64], state: Stat
 }
 
 // Error 1: alone at `)` and `]`, otherwise with a token.
-pub fn err_recover(kinds: &[u8], joints: &[u8], events: &mut [u64], state: State) -> Moved
-    ensures { λ r. ⌜ (movedReply r, now (events .exit)) ≡ run (lent (now (kinds .entry)) (now (joints .entry))) (errRecover (lent (now (kinds .entry)) (now (joints .entry)))) state (now (events .entry)) ⌝ }
+pub fn err_recover(kinds: &&[u8], joints: &&[u8], events: &mut [u64], state: State) -> Moved
+    ensures { λ r. ⌜ (movedReply r, now (events .exit)) ≡ run (lent (now (now (kinds .entry))) (now (now (joints .entry)))) (errRecover (lent (now (now (kinds .entry))) (now (now (joints .entry))))) state (now (events .entry)) ⌝ }
 {
     let at = state.pos.0;
-    let kind = kind_at(kinds, at);
+    let kind = kind_at(*kinds, at);
     if is_closing(kind) {
         return error(events, state, EXPECTED_EXPRESSION);
     }

@@ -28,8 +28,14 @@ use parser::inner::complete;
 use parser::inner::start;
 
 // A path under a node of its own, PATH_EXPR or PATH_TYPE. e.g. a::b
-pub fn path_node(kinds: &[u8], joints: &[u8], events: &mut [u64], state: State, node: u8) -> Closed
-    ensures { λ r. ⌜ (closedReply r, now (events .exit)) ≡ run (lent (now (kinds .entry)) (now (joints .entry))) (pathNode (lent (now (kinds .entry)) (now (joints .entry))) node) state (now (events .entry)) ⌝ }
+pub fn path_node(
+    kinds: &&[u8],
+    joints: &&[u8],
+    events: &mut [u64],
+    state: State,
+    node: u8,
+) -> Closed
+    ensures { λ r. ⌜ (closedReply r, now (events .exit)) ≡ run (lent (now (now (kinds .entry))) (now (now (joints .entry)))) (pathNode (lent (now (now (kinds .entry))) (now (now (joints .entry)))) node) state (now (events .entry)) ⌝ }
 {
     match start(events, state) {
         Opened::Open(s1, m) => match plain_path(kinds, joints, events, s1) {
@@ -41,8 +47,8 @@ pub fn path_node(kinds: &[u8], joints: &[u8], events: &mut [u64], state: State, 
 }
 
 // A path that no `!` follows.
-fn plain_path(kinds: &[u8], joints: &[u8], events: &mut [u64], state: State) -> Moved
-    ensures { λ r. ⌜ (movedReply r, now (events .exit)) ≡ run (lent (now (kinds .entry)) (now (joints .entry))) (plainPath (lent (now (kinds .entry)) (now (joints .entry)))) state (now (events .entry)) ⌝ }
+fn plain_path(kinds: &&[u8], joints: &&[u8], events: &mut [u64], state: State) -> Moved
+    ensures { λ r. ⌜ (movedReply r, now (events .exit)) ≡ run (lent (now (now (kinds .entry))) (now (now (joints .entry)))) (plainPath (lent (now (now (kinds .entry))) (now (now (joints .entry))))) state (now (events .entry)) ⌝ }
 {
     match path(kinds, joints, events, state) {
         Closed::Done(s1, _) => no_macro(kinds, joints, events, s1),
@@ -50,8 +56,8 @@ fn plain_path(kinds: &[u8], joints: &[u8], events: &mut [u64], state: State) -> 
     }
 }
 
-fn path(kinds: &[u8], joints: &[u8], events: &mut [u64], state: State) -> Closed
-    ensures { λ r. ⌜ (closedReply r, now (events .exit)) ≡ run (lent (now (kinds .entry)) (now (joints .entry))) (path (lent (now (kinds .entry)) (now (joints .entry)))) state (now (events .entry)) ⌝ }
+fn path(kinds: &&[u8], joints: &&[u8], events: &mut [u64], state: State) -> Closed
+    ensures { λ r. ⌜ (closedReply r, now (events .exit)) ≡ run (lent (now (now (kinds .entry))) (now (now (joints .entry)))) (path (lent (now (now (kinds .entry))) (now (now (joints .entry))))) state (now (events .entry)) ⌝ }
 {
     match first_path(kinds, joints, events, state) {
         Closed::Done(s1, m) => path_rest(kinds, joints, events, s1, m),
@@ -59,8 +65,8 @@ fn path(kinds: &[u8], joints: &[u8], events: &mut [u64], state: State) -> Closed
     }
 }
 
-fn first_path(kinds: &[u8], joints: &[u8], events: &mut [u64], state: State) -> Closed
-    ensures { λ r. ⌜ (closedReply r, now (events .exit)) ≡ run (lent (now (kinds .entry)) (now (joints .entry))) (firstPath) state (now (events .entry)) ⌝ }
+fn first_path(kinds: &&[u8], joints: &&[u8], events: &mut [u64], state: State) -> Closed
+    ensures { λ r. ⌜ (closedReply r, now (events .exit)) ≡ run (lent (now (now (kinds .entry))) (now (now (joints .entry)))) (firstPath) state (now (events .entry)) ⌝ }
 {
     match start(events, state) {
         Opened::Open(s1, m) => match segment(kinds, joints, events, s1) {
@@ -73,18 +79,18 @@ fn first_path(kinds: &[u8], joints: &[u8], events: &mut [u64], state: State) -> 
 
 // The `::` and names that follow a path.
 fn path_rest(
-    kinds: &[u8],
-    joints: &[u8],
+    kinds: &&[u8],
+    joints: &&[u8],
     events: &mut [u64],
     state: State,
     first: CompletedMarker,
 ) -> Closed
-    ensures { λ r. ⌜ (closedReply r, now (events .exit)) ≡ run (lent (now (kinds .entry)) (now (joints .entry))) (pathRest (lent (now (kinds .entry)) (now (joints .entry))) first) state (now (events .entry)) ⌝ }
+    ensures { λ r. ⌜ (closedReply r, now (events .exit)) ≡ run (lent (now (now (kinds .entry))) (now (now (joints .entry)))) (pathRest (lent (now (now (kinds .entry))) (now (now (joints .entry)))) first) state (now (events .entry)) ⌝ }
 {
     let mut s = state;
     let mut m = first;
     loop {
-        match path_turn(kinds, joints, events, s, m) {
+        match path_turn(*kinds, *joints, events, s, m) {
             Turn::Again(s1, m1) => {
                 s = s1;
                 m = m1;
@@ -110,7 +116,7 @@ fn path_turn(
     }
     let next = kind_at(kinds, at + 2);
     if next == IDENT {
-        return turn_of(qualified(kinds, joints, events, state, m));
+        return turn_of(qualified(&kinds, &joints, events, state, m));
     }
     Turn::Refused(Refusal {
         number: OUTSIDE_CUT,
@@ -120,13 +126,13 @@ fn path_turn(
 
 // e.g. ::b
 fn qualified(
-    kinds: &[u8],
-    joints: &[u8],
+    kinds: &&[u8],
+    joints: &&[u8],
     events: &mut [u64],
     state: State,
     m: CompletedMarker,
 ) -> Closed
-    ensures { λ r. ⌜ (closedReply r, now (events .exit)) ≡ run (lent (now (kinds .entry)) (now (joints .entry))) (qualified m) state (now (events .entry)) ⌝ }
+    ensures { λ r. ⌜ (closedReply r, now (events .exit)) ≡ run (lent (now (now (kinds .entry))) (now (now (joints .entry)))) (qualified m) state (now (events .entry)) ⌝ }
 {
     match lead(kinds, joints, events, state, m, COLON2) {
         Opened::Open(s1, o) => match segment(kinds, joints, events, s1) {
@@ -137,8 +143,8 @@ fn qualified(
     }
 }
 
-fn segment(kinds: &[u8], joints: &[u8], events: &mut [u64], state: State) -> Closed
-    ensures { λ r. ⌜ (closedReply r, now (events .exit)) ≡ run (lent (now (kinds .entry)) (now (joints .entry))) (segment) state (now (events .entry)) ⌝ }
+fn segment(kinds: &&[u8], joints: &&[u8], events: &mut [u64], state: State) -> Closed
+    ensures { λ r. ⌜ (closedReply r, now (events .exit)) ≡ run (lent (now (now (kinds .entry))) (now (now (joints .entry)))) (segment) state (now (events .entry)) ⌝ }
 {
     match start(events, state) {
         Opened::Open(s1, m) => match leaf(kinds, joints, events, s1, NAME_REF) {
@@ -150,15 +156,15 @@ fn segment(kinds: &[u8], joints: &[u8], events: &mut [u64], state: State) -> Clo
 }
 
 // A macro call is outside the cut; `!=` is an operator.
-fn no_macro(kinds: &[u8], joints: &[u8], events: &mut [u64], state: State) -> Moved
-    ensures { λ r. ⌜ (movedReply r, now (events .exit)) ≡ run (lent (now (kinds .entry)) (now (joints .entry))) (noMacro (lent (now (kinds .entry)) (now (joints .entry)))) state (now (events .entry)) ⌝ }
+fn no_macro(kinds: &&[u8], joints: &&[u8], events: &mut [u64], state: State) -> Moved
+    ensures { λ r. ⌜ (movedReply r, now (events .exit)) ≡ run (lent (now (now (kinds .entry))) (now (now (joints .entry)))) (noMacro (lent (now (now (kinds .entry))) (now (now (joints .entry))))) state (now (events .entry)) ⌝ }
 {
     let at = state.pos.0;
-    let kind = kind_at(kinds, at);
+    let kind = kind_at(*kinds, at);
     if kind != BANG {
         return Moved::On(state);
     }
-    if nth_at(kinds, joints, at, NEQ) {
+    if nth_at(*kinds, *joints, at, NEQ) {
         return Moved::On(state);
     }
     Moved::Refused(Refusal {

@@ -29,13 +29,13 @@ use parser::inner::error;
 
 // e.g. 82 as i32
 pub fn cast_expr(
-    kinds: &[u8],
-    joints: &[u8],
+    kinds: &&[u8],
+    joints: &&[u8],
     events: &mut [u64],
     state: State,
     m: CompletedMarker,
 ) -> Closed
-    ensures { λ r. ⌜ (closedReply r, now (events .exit)) ≡ run (lent (now (kinds .entry)) (now (joints .entry))) (castExpr (lent (now (kinds .entry)) (now (joints .entry))) m) state (now (events .entry)) ⌝ }
+    ensures { λ r. ⌜ (closedReply r, now (events .exit)) ≡ run (lent (now (now (kinds .entry))) (now (now (joints .entry)))) (castExpr (lent (now (now (kinds .entry))) (now (now (joints .entry)))) m) state (now (events .entry)) ⌝ }
 {
     match lead(kinds, joints, events, state, m, AS_KW) {
         Opened::Open(s1, o) => match cast_type(kinds, joints, events, s1) {
@@ -46,11 +46,11 @@ pub fn cast_expr(
     }
 }
 
-fn cast_type(kinds: &[u8], joints: &[u8], events: &mut [u64], state: State) -> Moved
-    ensures { λ r. ⌜ (movedReply r, now (events .exit)) ≡ run (lent (now (kinds .entry)) (now (joints .entry))) (castType (lent (now (kinds .entry)) (now (joints .entry)))) state (now (events .entry)) ⌝ }
+fn cast_type(kinds: &&[u8], joints: &&[u8], events: &mut [u64], state: State) -> Moved
+    ensures { λ r. ⌜ (movedReply r, now (events .exit)) ≡ run (lent (now (now (kinds .entry))) (now (now (joints .entry)))) (castType (lent (now (now (kinds .entry))) (now (now (joints .entry))))) state (now (events .entry)) ⌝ }
 {
     let at = state.pos.0;
-    let kind = kind_at(kinds, at);
+    let kind = kind_at(*kinds, at);
     if kind == IDENT {
         return path_type(kinds, joints, events, state);
     }
@@ -63,8 +63,8 @@ fn cast_type(kinds: &[u8], joints: &[u8], events: &mut [u64], state: State) -> M
     error(events, state, EXPECTED_TYPE)
 }
 
-fn path_type(kinds: &[u8], joints: &[u8], events: &mut [u64], state: State) -> Moved
-    ensures { λ r. ⌜ (movedReply r, now (events .exit)) ≡ run (lent (now (kinds .entry)) (now (joints .entry))) (pathType (lent (now (kinds .entry)) (now (joints .entry)))) state (now (events .entry)) ⌝ }
+fn path_type(kinds: &&[u8], joints: &&[u8], events: &mut [u64], state: State) -> Moved
+    ensures { λ r. ⌜ (movedReply r, now (events .exit)) ≡ run (lent (now (now (kinds .entry))) (now (now (joints .entry)))) (pathType (lent (now (now (kinds .entry))) (now (now (joints .entry))))) state (now (events .entry)) ⌝ }
 {
     match path_node(kinds, joints, events, state, PATH_TYPE) {
         Closed::Done(s1, _) => after_type(kinds, joints, events, s1),
@@ -73,11 +73,11 @@ fn path_type(kinds: &[u8], joints: &[u8], events: &mut [u64], state: State) -> M
 }
 
 // Arguments of a type are outside the cut; `<=` is an operator.
-fn after_type(kinds: &[u8], joints: &[u8], events: &mut [u64], state: State) -> Moved
-    ensures { λ r. ⌜ (movedReply r, now (events .exit)) ≡ run (lent (now (kinds .entry)) (now (joints .entry))) (afterType (lent (now (kinds .entry)) (now (joints .entry)))) state (now (events .entry)) ⌝ }
+fn after_type(kinds: &&[u8], joints: &&[u8], events: &mut [u64], state: State) -> Moved
+    ensures { λ r. ⌜ (movedReply r, now (events .exit)) ≡ run (lent (now (now (kinds .entry))) (now (now (joints .entry)))) (afterType (lent (now (now (kinds .entry))) (now (now (joints .entry))))) state (now (events .entry)) ⌝ }
 {
     let at = state.pos.0;
-    let kind = kind_at(kinds, at);
+    let kind = kind_at(*kinds, at);
     if kind == L_PAREN {
         return Moved::Refused(Refusal {
             number: OUTSIDE_CUT,
@@ -87,7 +87,7 @@ fn after_type(kinds: &[u8], joints: &[u8], events: &mut [u64], state: State) -> 
     if kind != L_ANGLE {
         return Moved::On(state);
     }
-    if nth_at(kinds, joints, at, LTEQ) {
+    if nth_at(*kinds, *joints, at, LTEQ) {
         return Moved::On(state);
     }
     Moved::Refused(Refusal {

@@ -1,2 +1,3 @@
 pub mod Expressions
 pub mod Views
+pub mod Forms

@@ -5,7 +5,8 @@ ghost use Rattle.input.specs.Input.{lent};
 ghost use Rattle.parser.specs.Prog.{run};
 ghost use Rattle.atoms.specs.Views.{openedReply, closedReply, movedReply, turnReply};
 ghost use Rattle.grammar.specs.Views.{readingReply, postfixReply, argsReply, argsEnd, missingOf, lastOf, readingOf, postfixOf};
-ghost use Rattle.grammar.specs.Expressions.{afterArgument, argument, arguments, argList, callExpr, indexExpr, tryExpr, dotted, awaitExpr, noGenerics, methodName, methodHead, floatField, namedField, noField, field, fieldExpr, beginRef, parenTail, isMethod, isDots, nameAt, methodCallExpr, postfixDotExpr, postfixTurn, postfixExpr, parenExpr, atomExpr, refExpr, prefixExpr, leadingRange, lhs, binExpr, rangeExpr, operatorTurn, operators, extended, expression, noExpression, exprBp, plainAtom, givenUp, loneComma, loneDot, noComma, atomPostfix};
+ghost use Rattle.grammar.specs.Forms.{dotFormAt, formAt, dotsAt, callHead, anyCall};
+ghost use Rattle.grammar.specs.Expressions.{afterArgument, argument, arguments, argList, indexExpr, tryExpr, dotted, awaitExpr, noGenerics, methodName, methodHead, floatField, namedField, noField, field, fieldExpr, beginRef, parenTail, isMethod, isDots, nameAt, postfixTurn, postfixExpr, parenExpr, atomExpr, refExpr, prefixExpr, leadingRange, lhs, binExpr, rangeExpr, operatorTurn, operators, extended, expression, noExpression, exprBp, plainAtom, givenUp, loneComma, loneDot, noComma, atomPostfix};
 use crate::Args;
 use crate::Postfix;
 use crate::Reading;
@@ -100,14 +101,14 @@ const OPERAND: u16 = 255;
 
 // Reads an expression whose operators have at least strength b. e.g. 1 + 2 * 3
 pub fn expr_bp(
-    kinds: &[u8],
-    joints: &[u8],
+    kinds: &&[u8],
+    joints: &&[u8],
     events: &mut [u64],
     state: State,
     b: u16,
     depth: Depth,
 ) -> Reading
-    ensures { λ r. ⌜ (readingReply r, now (events .exit)) ≡ run (lent (now (kinds .entry)) (now (joints .entry))) (exprBp (depth .0) (lent (now (kinds .entry)) (now (joints .entry))) b) state (now (events .entry)) ⌝ }
+    ensures { λ r. ⌜ (readingReply r, now (events .exit)) ≡ run (lent (now (now (kinds .entry))) (now (now (joints .entry)))) (exprBp (depth .0) (lent (now (now (kinds .entry))) (now (now (joints .entry)))) b) state (now (events .entry)) ⌝ }
 {
     let left = depth.0;
     if left == 0 {
@@ -120,7 +121,7 @@ pub fn expr_bp(
     match start(events, state) {
         Opened::Open(s1, m) => {
             let at = s1.pos.0;
-            let kind = kind_at(kinds, at);
+            let kind = kind_at(*kinds, at);
             if is_first(kind) {
                 return expr(kinds, joints, events, s1, m, b, inner);
             }
@@ -132,15 +133,15 @@ pub fn expr_bp(
 
 // The left part and the operators that follow it.
 fn expr(
-    kinds: &[u8],
-    joints: &[u8],
+    kinds: &&[u8],
+    joints: &&[u8],
     events: &mut [u64],
     state: State,
     m: Marker,
     b: u16,
     inner: Depth,
 ) -> Reading
-    ensures { λ r. ⌜ (readingReply r, now (events .exit)) ≡ run (lent (now (kinds .entry)) (now (joints .entry))) (expression (lent (now (kinds .entry)) (now (joints .entry))) (exprBp (inner .0) (lent (now (kinds .entry)) (now (joints .entry)))) b m) state (now (events .entry)) ⌝ }
+    ensures { λ r. ⌜ (readingReply r, now (events .exit)) ≡ run (lent (now (now (kinds .entry))) (now (now (joints .entry)))) (expression (lent (now (now (kinds .entry))) (now (now (joints .entry)))) (exprBp (inner .0) (lent (now (now (kinds .entry))) (now (now (joints .entry))))) b m) state (now (events .entry)) ⌝ }
 {
     let r = begun(kinds, joints, events, state, m, inner);
     let Reading::Expr(s1, lhs) = r else {
@@ -151,13 +152,13 @@ fn expr(
 
 // Error 1 instead of an expression.
 fn no_expression(
-    kinds: &[u8],
-    joints: &[u8],
+    kinds: &&[u8],
+    joints: &&[u8],
     events: &mut [u64],
     state: State,
     m: Marker,
 ) -> Reading
-    ensures { λ r. ⌜ (readingReply r, now (events .exit)) ≡ run (lent (now (kinds .entry)) (now (joints .entry))) (noExpression (lent (now (kinds .entry)) (now (joints .entry))) m) state (now (events .entry)) ⌝ }
+    ensures { λ r. ⌜ (readingReply r, now (events .exit)) ≡ run (lent (now (now (kinds .entry))) (now (now (joints .entry)))) (noExpression (lent (now (now (kinds .entry))) (now (now (joints .entry)))) m) state (now (events .entry)) ⌝ }
 {
     match err_recover(kinds, joints, events, state) {
         Moved::On(s1) => given_up(kinds, joints, events, s1, m),
@@ -166,8 +167,8 @@ fn no_expression(
 }
 
 // The marker of a reading that yields no expression.
-fn given_up(kinds: &[u8], joints: &[u8], events: &mut [u64], state: State, m: Marker) -> Reading
-    ensures { λ r. ⌜ (readingReply r, now (events .exit)) ≡ run (lent (now (kinds .entry)) (now (joints .entry))) (givenUp m) state (now (events .entry)) ⌝ }
+fn given_up(kinds: &&[u8], joints: &&[u8], events: &mut [u64], state: State, m: Marker) -> Reading
+    ensures { λ r. ⌜ (readingReply r, now (events .exit)) ≡ run (lent (now (now (kinds .entry))) (now (now (joints .entry)))) (givenUp m) state (now (events .entry)) ⌝ }
 {
     match abandon(events, state, m) {
         Moved::On(s1) => Reading::NoExpr(s1),
@@ -176,8 +177,8 @@ fn given_up(kinds: &[u8], joints: &[u8], events: &mut [u64], state: State, m: Ma
 }
 
 // A left part that yields no expression: its reading's marker is abandoned.
-fn missing(kinds: &[u8], joints: &[u8], events: &mut [u64], r: Reading, m: Marker) -> Reading
-    ensures { λ y. ⌜ (readingReply y, now (events .exit)) ≡ missingOf (lent (now (kinds .entry)) (now (joints .entry))) r m (now (events .entry)) ⌝ }
+fn missing(kinds: &&[u8], joints: &&[u8], events: &mut [u64], r: Reading, m: Marker) -> Reading
+    ensures { λ y. ⌜ (readingReply y, now (events .exit)) ≡ missingOf (lent (now (now (kinds .entry))) (now (now (joints .entry)))) r m (now (events .entry)) ⌝ }
 {
     match r {
         Reading::Expr(s, c) => Reading::Expr(s, c),
@@ -188,14 +189,14 @@ fn missing(kinds: &[u8], joints: &[u8], events: &mut [u64], r: Reading, m: Marke
 
 // The left part, extended to the reading's marker.
 fn begun(
-    kinds: &[u8],
-    joints: &[u8],
+    kinds: &&[u8],
+    joints: &&[u8],
     events: &mut [u64],
     state: State,
     m: Marker,
     inner: Depth,
 ) -> Reading
-    ensures { λ r. ⌜ (readingReply r, now (events .exit)) ≡ run (lent (now (kinds .entry)) (now (joints .entry))) (extended (lent (now (kinds .entry)) (now (joints .entry))) (exprBp (inner .0) (lent (now (kinds .entry)) (now (joints .entry)))) m) state (now (events .entry)) ⌝ }
+    ensures { λ r. ⌜ (readingReply r, now (events .exit)) ≡ run (lent (now (now (kinds .entry))) (now (now (joints .entry)))) (extended (lent (now (now (kinds .entry))) (now (now (joints .entry)))) (exprBp (inner .0) (lent (now (now (kinds .entry))) (now (now (joints .entry))))) m) state (now (events .entry)) ⌝ }
 {
     let r = lhs(kinds, joints, events, state, inner);
     let Reading::Expr(s1, c) = r else {
@@ -206,15 +207,15 @@ fn begun(
 
 // The operators of at least strength b that follow an expression.
 fn ops(
-    kinds: &[u8],
-    joints: &[u8],
+    kinds: &&[u8],
+    joints: &&[u8],
     events: &mut [u64],
     state: State,
     first: CompletedMarker,
     b: u16,
     inner: Depth,
 ) -> Closed
-    ensures { λ r. ⌜ (closedReply r, now (events .exit)) ≡ run (lent (now (kinds .entry)) (now (joints .entry))) (operators (lent (now (kinds .entry)) (now (joints .entry))) (exprBp (inner .0) (lent (now (kinds .entry)) (now (joints .entry)))) b first) state (now (events .entry)) ⌝ }
+    ensures { λ r. ⌜ (closedReply r, now (events .exit)) ≡ run (lent (now (now (kinds .entry))) (now (now (joints .entry)))) (operators (lent (now (now (kinds .entry))) (now (now (joints .entry)))) (exprBp (inner .0) (lent (now (now (kinds .entry))) (now (now (joints .entry))))) b first) state (now (events .entry)) ⌝ }
 {
     let mut s = state;
     let mut m = first;
@@ -232,18 +233,18 @@ fn ops(
 
 // One operator, or the end.
 fn oper(
-    kinds: &[u8],
-    joints: &[u8],
+    kinds: &&[u8],
+    joints: &&[u8],
     events: &mut [u64],
     state: State,
     m: CompletedMarker,
     b: u16,
     inner: Depth,
 ) -> Turn
-    ensures { λ r. ⌜ (turnReply r, now (events .exit)) ≡ run (lent (now (kinds .entry)) (now (joints .entry))) (operatorTurn (lent (now (kinds .entry)) (now (joints .entry))) (exprBp (inner .0) (lent (now (kinds .entry)) (now (joints .entry)))) b m) state (now (events .entry)) ⌝ }
+    ensures { λ r. ⌜ (turnReply r, now (events .exit)) ≡ run (lent (now (now (kinds .entry))) (now (now (joints .entry)))) (operatorTurn (lent (now (now (kinds .entry))) (now (now (joints .entry)))) (exprBp (inner .0) (lent (now (now (kinds .entry))) (now (now (joints .entry))))) b m) state (now (events .entry)) ⌝ }
 {
     let at = state.pos.0;
-    let op = current_op(kinds, joints, at);
+    let op = current_op(*kinds, *joints, at);
     if (op.strength as u16) < b {
         return Turn::Done(state, m);
     }
@@ -258,15 +259,15 @@ fn oper(
 
 // e.g. a * b
 fn infixed(
-    kinds: &[u8],
-    joints: &[u8],
+    kinds: &&[u8],
+    joints: &&[u8],
     events: &mut [u64],
     state: State,
     op: Op,
     m: CompletedMarker,
     inner: Depth,
 ) -> Closed
-    ensures { λ r. ⌜ (closedReply r, now (events .exit)) ≡ run (lent (now (kinds .entry)) (now (joints .entry))) (binExpr (lent (now (kinds .entry)) (now (joints .entry))) (exprBp (inner .0) (lent (now (kinds .entry)) (now (joints .entry)))) op m) state (now (events .entry)) ⌝ }
+    ensures { λ r. ⌜ (closedReply r, now (events .exit)) ≡ run (lent (now (now (kinds .entry))) (now (now (joints .entry)))) (binExpr (lent (now (now (kinds .entry))) (now (now (joints .entry)))) (exprBp (inner .0) (lent (now (now (kinds .entry))) (now (now (joints .entry))))) op m) state (now (events .entry)) ⌝ }
 {
     match lead(kinds, joints, events, state, m, op.kind) {
         Opened::Open(s1, o) => {
@@ -283,20 +284,20 @@ fn infixed(
 
 // e.g. 1..2, 1..
 fn range(
-    kinds: &[u8],
-    joints: &[u8],
+    kinds: &&[u8],
+    joints: &&[u8],
     events: &mut [u64],
     state: State,
     op: Op,
     m: CompletedMarker,
     inner: Depth,
 ) -> Turn
-    ensures { λ r. ⌜ (turnReply r, now (events .exit)) ≡ run (lent (now (kinds .entry)) (now (joints .entry))) (rangeExpr (lent (now (kinds .entry)) (now (joints .entry))) (exprBp (inner .0) (lent (now (kinds .entry)) (now (joints .entry)))) op m) state (now (events .entry)) ⌝ }
+    ensures { λ r. ⌜ (turnReply r, now (events .exit)) ≡ run (lent (now (now (kinds .entry))) (now (now (joints .entry)))) (rangeExpr (lent (now (now (kinds .entry))) (now (now (joints .entry)))) (exprBp (inner .0) (lent (now (now (kinds .entry))) (now (now (joints .entry))))) op m) state (now (events .entry)) ⌝ }
 {
     match lead(kinds, joints, events, state, m, op.kind) {
         Opened::Open(s1, o) => {
             let at = s1.pos.0;
-            if !operand_follows(kinds, joints, at) {
+            if !operand_follows(*kinds, *joints, at) {
                 return last_of(complete(events, s1, o, RANGE_EXPR));
             }
             let right = right_of(op);
@@ -341,28 +342,39 @@ fn postfix_of(c: Closed) -> Postfix
 }
 
 // The left part: a prefix, a leading range, or an atom with its postfix forms.
-fn lhs(kinds: &[u8], joints: &[u8], events: &mut [u64], state: State, inner: Depth) -> Reading
-    ensures { λ r. ⌜ (readingReply r, now (events .exit)) ≡ run (lent (now (kinds .entry)) (now (joints .entry))) (lhs (lent (now (kinds .entry)) (now (joints .entry))) (exprBp (inner .0) (lent (now (kinds .entry)) (now (joints .entry))))) state (now (events .entry)) ⌝ }
+fn lhs(kinds: &&[u8], joints: &&[u8], events: &mut [u64], state: State, inner: Depth) -> Reading
+    ensures { λ r. ⌜ (readingReply r, now (events .exit)) ≡ run (lent (now (now (kinds .entry))) (now (now (joints .entry)))) (lhs (lent (now (now (kinds .entry))) (now (now (joints .entry)))) (exprBp (inner .0) (lent (now (now (kinds .entry))) (now (now (joints .entry)))))) state (now (events .entry)) ⌝ }
 {
     let at = state.pos.0;
-    let kind = kind_at(kinds, at);
+    let kind = kind_at(*kinds, at);
     if kind == AMP {
         return reading_of(refer(kinds, joints, events, state, inner));
     }
     if is_prefix(kind) {
         return reading_of(unary(kinds, joints, events, state, kind, inner));
     }
-    if nth_at(kinds, joints, at, DOT2EQ) {
-        return reading_of(leading(kinds, joints, events, state, DOT2EQ, inner));
+    let dots = dots_at(kinds, joints, at);
+    if dots == 0 {
+        return atoms(kinds, joints, events, state, inner);
     }
-    if nth_at(kinds, joints, at, DOT2) {
-        return reading_of(leading(kinds, joints, events, state, DOT2, inner));
-    }
-    atoms(kinds, joints, events, state, inner)
+    reading_of(leading(kinds, joints, events, state, dots, inner))
 }
 
-fn atoms(kinds: &[u8], joints: &[u8], events: &mut [u64], state: State, inner: Depth) -> Reading
-    ensures { λ r. ⌜ (readingReply r, now (events .exit)) ≡ run (lent (now (kinds .entry)) (now (joints .entry))) (atomPostfix (lent (now (kinds .entry)) (now (joints .entry))) (exprBp (inner .0) (lent (now (kinds .entry)) (now (joints .entry))))) state (now (events .entry)) ⌝ }
+// `..=` or `..` at a position, 0 for neither.
+fn dots_at(kinds: &&[u8], joints: &&[u8], at: usize) -> u8
+    ensures { λ r. ⌜ r ≡ dotsAt (lent (now (now (kinds .entry))) (now (now (joints .entry)))) at ⌝ }
+{
+    if nth_at(*kinds, *joints, at, DOT2EQ) {
+        return DOT2EQ;
+    }
+    if nth_at(*kinds, *joints, at, DOT2) {
+        return DOT2;
+    }
+    0
+}
+
+fn atoms(kinds: &&[u8], joints: &&[u8], events: &mut [u64], state: State, inner: Depth) -> Reading
+    ensures { λ r. ⌜ (readingReply r, now (events .exit)) ≡ run (lent (now (now (kinds .entry))) (now (now (joints .entry)))) (atomPostfix (lent (now (now (kinds .entry))) (now (now (joints .entry)))) (exprBp (inner .0) (lent (now (now (kinds .entry))) (now (now (joints .entry)))))) state (now (events .entry)) ⌝ }
 {
     let r = atom_expr(kinds, joints, events, state, inner);
     let Reading::Expr(s1, m) = r else {
@@ -371,11 +383,11 @@ fn atoms(kinds: &[u8], joints: &[u8], events: &mut [u64], state: State, inner: D
     reading_of(postfix_expr(kinds, joints, events, s1, m, inner))
 }
 
-fn begin_ref(kinds: &[u8], joints: &[u8], events: &mut [u64], state: State) -> Opened
-    ensures { λ r. ⌜ (openedReply r, now (events .exit)) ≡ run (lent (now (kinds .entry)) (now (joints .entry))) (beginRef) state (now (events .entry)) ⌝ }
+fn begin_ref(kinds: &&[u8], joints: &&[u8], events: &mut [u64], state: State) -> Opened
+    ensures { λ r. ⌜ (openedReply r, now (events .exit)) ≡ run (lent (now (now (kinds .entry))) (now (now (joints .entry)))) (beginRef) state (now (events .entry)) ⌝ }
 {
     match begin(kinds, joints, events, state, AMP) {
-        Opened::Open(s1, m) => match eat(kinds, joints, events, s1, MUT_KW) {
+        Opened::Open(s1, m) => match eat(*kinds, *joints, events, s1, MUT_KW) {
             Taken::Took(s2) => Opened::Open(s2, m),
             Taken::No => Opened::Open(s1, m),
             Taken::Refused(r) => Opened::Refused(r),
@@ -385,8 +397,8 @@ fn begin_ref(kinds: &[u8], joints: &[u8], events: &mut [u64], state: State) -> O
 }
 
 // e.g. &1, &mut a
-fn refer(kinds: &[u8], joints: &[u8], events: &mut [u64], state: State, inner: Depth) -> Closed
-    ensures { λ r. ⌜ (closedReply r, now (events .exit)) ≡ run (lent (now (kinds .entry)) (now (joints .entry))) (refExpr (lent (now (kinds .entry)) (now (joints .entry))) (exprBp (inner .0) (lent (now (kinds .entry)) (now (joints .entry))))) state (now (events .entry)) ⌝ }
+fn refer(kinds: &&[u8], joints: &&[u8], events: &mut [u64], state: State, inner: Depth) -> Closed
+    ensures { λ r. ⌜ (closedReply r, now (events .exit)) ≡ run (lent (now (now (kinds .entry))) (now (now (joints .entry)))) (refExpr (lent (now (now (kinds .entry))) (now (now (joints .entry)))) (exprBp (inner .0) (lent (now (now (kinds .entry))) (now (now (joints .entry)))))) state (now (events .entry)) ⌝ }
 {
     match begin_ref(kinds, joints, events, state) {
         Opened::Open(s1, m) => match expr_bp(kinds, joints, events, s1, OPERAND, inner) {
@@ -400,14 +412,14 @@ fn refer(kinds: &[u8], joints: &[u8], events: &mut [u64], state: State, inner: D
 
 // e.g. **&1, !!true, --1
 fn unary(
-    kinds: &[u8],
-    joints: &[u8],
+    kinds: &&[u8],
+    joints: &&[u8],
     events: &mut [u64],
     state: State,
     kind: u8,
     inner: Depth,
 ) -> Closed
-    ensures { λ r. ⌜ (closedReply r, now (events .exit)) ≡ run (lent (now (kinds .entry)) (now (joints .entry))) (prefixExpr (lent (now (kinds .entry)) (now (joints .entry))) (exprBp (inner .0) (lent (now (kinds .entry)) (now (joints .entry)))) kind) state (now (events .entry)) ⌝ }
+    ensures { λ r. ⌜ (closedReply r, now (events .exit)) ≡ run (lent (now (now (kinds .entry))) (now (now (joints .entry)))) (prefixExpr (lent (now (now (kinds .entry))) (now (now (joints .entry)))) (exprBp (inner .0) (lent (now (now (kinds .entry))) (now (now (joints .entry))))) kind) state (now (events .entry)) ⌝ }
 {
     match begin(kinds, joints, events, state, kind) {
         Opened::Open(s1, m) => match expr_bp(kinds, joints, events, s1, OPERAND, inner) {
@@ -421,19 +433,19 @@ fn unary(
 
 // e.g. .., ..=1
 fn leading(
-    kinds: &[u8],
-    joints: &[u8],
+    kinds: &&[u8],
+    joints: &&[u8],
     events: &mut [u64],
     state: State,
     kind: u8,
     inner: Depth,
 ) -> Closed
-    ensures { λ r. ⌜ (closedReply r, now (events .exit)) ≡ run (lent (now (kinds .entry)) (now (joints .entry))) (leadingRange (lent (now (kinds .entry)) (now (joints .entry))) (exprBp (inner .0) (lent (now (kinds .entry)) (now (joints .entry)))) kind) state (now (events .entry)) ⌝ }
+    ensures { λ r. ⌜ (closedReply r, now (events .exit)) ≡ run (lent (now (now (kinds .entry))) (now (now (joints .entry)))) (leadingRange (lent (now (now (kinds .entry))) (now (now (joints .entry)))) (exprBp (inner .0) (lent (now (now (kinds .entry))) (now (now (joints .entry))))) kind) state (now (events .entry)) ⌝ }
 {
     match begin(kinds, joints, events, state, kind) {
         Opened::Open(s1, m) => {
             let at = s1.pos.0;
-            if !operand_follows(kinds, joints, at) {
+            if !operand_follows(*kinds, *joints, at) {
                 return complete(events, s1, m, RANGE_EXPR);
             }
             match expr_bp(kinds, joints, events, s1, RANGE_OPERAND, inner) {
@@ -448,14 +460,14 @@ fn leading(
 
 // The postfix forms that follow an expression. e.g. a(1)[2].b?
 fn postfix_expr(
-    kinds: &[u8],
-    joints: &[u8],
+    kinds: &&[u8],
+    joints: &&[u8],
     events: &mut [u64],
     state: State,
     first: CompletedMarker,
     inner: Depth,
 ) -> Closed
-    ensures { λ r. ⌜ (closedReply r, now (events .exit)) ≡ run (lent (now (kinds .entry)) (now (joints .entry))) (postfixExpr (lent (now (kinds .entry)) (now (joints .entry))) (exprBp (inner .0) (lent (now (kinds .entry)) (now (joints .entry)))) first) state (now (events .entry)) ⌝ }
+    ensures { λ r. ⌜ (closedReply r, now (events .exit)) ≡ run (lent (now (now (kinds .entry))) (now (now (joints .entry)))) (postfixExpr (lent (now (now (kinds .entry))) (now (now (joints .entry)))) (exprBp (inner .0) (lent (now (now (kinds .entry))) (now (now (joints .entry))))) first) state (now (events .entry)) ⌝ }
 {
     let mut s = state;
     let mut m = first;
@@ -475,54 +487,60 @@ fn postfix_expr(
 
 // One postfix form, or the end.
 fn tail(
-    kinds: &[u8],
-    joints: &[u8],
+    kinds: &&[u8],
+    joints: &&[u8],
     events: &mut [u64],
     state: State,
     m: CompletedMarker,
     recovery: bool,
     inner: Depth,
 ) -> Postfix
-    ensures { λ r. ⌜ (postfixReply r, now (events .exit)) ≡ run (lent (now (kinds .entry)) (now (joints .entry))) (postfixTurn (lent (now (kinds .entry)) (now (joints .entry))) (exprBp (inner .0) (lent (now (kinds .entry)) (now (joints .entry)))) (m, recovery)) state (now (events .entry)) ⌝ }
+    ensures { λ r. ⌜ (postfixReply r, now (events .exit)) ≡ run (lent (now (now (kinds .entry))) (now (now (joints .entry)))) (postfixTurn (lent (now (now (kinds .entry))) (now (now (joints .entry)))) (exprBp (inner .0) (lent (now (now (kinds .entry))) (now (now (joints .entry))))) (m, recovery)) state (now (events .entry)) ⌝ }
+{
+    let at = state.pos.0;
+    let node = form_at(kinds, joints, recovery, at);
+    match node {
+        0 => Postfix::Done(state, m),
+        INDEX_EXPR => postfix_of(index_expr(kinds, joints, events, state, m, inner)),
+        TRY_EXPR => postfix_of(try_expr(kinds, joints, events, state, m)),
+        AWAIT_EXPR => postfix_of(await_expr(kinds, joints, events, state, m, recovery)),
+        FIELD_EXPR => field_expr(kinds, joints, events, state, m, recovery),
+        _ => postfix_of(call_expr(kinds, joints, events, state, m, node, recovery, inner)),
+    }
+}
+
+// The node that the postfix form at a position makes, 0 for none; behind a float's dot only a method call, `.await` or a field.
+fn form_at(kinds: &&[u8], joints: &&[u8], recovery: bool, at: usize) -> u8
+    ensures { λ r. ⌜ r ≡ formAt (lent (now (now (kinds .entry))) (now (now (joints .entry)))) recovery at ⌝ }
 {
     if recovery {
-        return postfix_dot_expr(kinds, joints, events, state, m, true, inner);
+        return dot_form_at(kinds, joints, recovery, at);
     }
-    let at = state.pos.0;
-    let kind = kind_at(kinds, at);
+    let kind = kind_at(*kinds, at);
     match kind {
-        L_PAREN => postfix_of(call_expr(kinds, joints, events, state, m, inner)),
-        L_BRACK => postfix_of(index_expr(kinds, joints, events, state, m, inner)),
-        DOT => postfix_dot_expr(kinds, joints, events, state, m, false, inner),
-        QUESTION => postfix_of(try_expr(kinds, joints, events, state, m)),
-        _ => Postfix::Done(state, m),
+        L_PAREN => CALL_EXPR,
+        L_BRACK => INDEX_EXPR,
+        DOT => dot_form_at(kinds, joints, recovery, at),
+        QUESTION => TRY_EXPR,
+        _ => 0,
     }
 }
 
 // A method call, `.await` or a field; the postfix forms end before `..` and `..=`.
-fn postfix_dot_expr(
-    kinds: &[u8],
-    joints: &[u8],
-    events: &mut [u64],
-    state: State,
-    m: CompletedMarker,
-    recovery: bool,
-    inner: Depth,
-) -> Postfix
-    ensures { λ r. ⌜ (postfixReply r, now (events .exit)) ≡ run (lent (now (kinds .entry)) (now (joints .entry))) (postfixDotExpr (lent (now (kinds .entry)) (now (joints .entry))) (exprBp (inner .0) (lent (now (kinds .entry)) (now (joints .entry)))) recovery m) state (now (events .entry)) ⌝ }
+fn dot_form_at(kinds: &&[u8], joints: &&[u8], recovery: bool, at: usize) -> u8
+    ensures { λ r. ⌜ r ≡ dotFormAt (lent (now (now (kinds .entry))) (now (now (joints .entry)))) recovery at ⌝ }
 {
-    let at = state.pos.0;
-    let name = name_at(kinds, joints, recovery, at);
-    if is_method(kinds, joints, name) {
-        return postfix_of(method_call_expr(kinds, joints, events, state, m, recovery, inner));
+    let name = name_at(*kinds, *joints, recovery, at);
+    if is_method(*kinds, *joints, name) {
+        return METHOD_CALL_EXPR;
     }
-    if kind_at(kinds, name) == AWAIT_KW {
-        return postfix_of(await_expr(kinds, joints, events, state, m, recovery));
+    if kind_at(*kinds, name) == AWAIT_KW {
+        return AWAIT_EXPR;
     }
     if is_dots(kinds, joints, at) {
-        return Postfix::Done(state, m);
+        return 0;
     }
-    field_expr(kinds, joints, events, state, m, recovery)
+    FIELD_EXPR
 }
 
 // Where the name after a dot stands; past the end there is none.
@@ -556,45 +574,65 @@ fn is_method(kinds: &[u8], joints: &[u8], at: usize) -> bool
     nth_at(kinds, joints, at + 1, COLON2)
 }
 
-fn is_dots(kinds: &[u8], joints: &[u8], at: usize) -> bool
-    ensures { λ r. ⌜ r ≡ isDots (lent (now (kinds .entry)) (now (joints .entry))) at ⌝ }
+fn is_dots(kinds: &&[u8], joints: &&[u8], at: usize) -> bool
+    ensures { λ r. ⌜ r ≡ isDots (lent (now (now (kinds .entry))) (now (now (joints .entry)))) at ⌝ }
 {
-    if nth_at(kinds, joints, at, DOT2EQ) {
+    if nth_at(*kinds, *joints, at, DOT2EQ) {
         return true;
     }
-    nth_at(kinds, joints, at, DOT2)
+    nth_at(*kinds, *joints, at, DOT2)
 }
 
-// e.g. f(1, 2,)
+// A call or a method call. e.g. f(1, 2,), x.foo(), x.0. call()
 fn call_expr(
-    kinds: &[u8],
-    joints: &[u8],
+    kinds: &&[u8],
+    joints: &&[u8],
     events: &mut [u64],
     state: State,
     m: CompletedMarker,
+    node: u8,
+    recovery: bool,
     inner: Depth,
 ) -> Closed
-    ensures { λ r. ⌜ (closedReply r, now (events .exit)) ≡ run (lent (now (kinds .entry)) (now (joints .entry))) (callExpr (lent (now (kinds .entry)) (now (joints .entry))) (exprBp (inner .0) (lent (now (kinds .entry)) (now (joints .entry)))) m) state (now (events .entry)) ⌝ }
+    ensures { λ r. ⌜ (closedReply r, now (events .exit)) ≡ run (lent (now (now (kinds .entry))) (now (now (joints .entry)))) (anyCall (lent (now (now (kinds .entry))) (now (now (joints .entry)))) (exprBp (inner .0) (lent (now (now (kinds .entry))) (now (now (joints .entry))))) node recovery m) state (now (events .entry)) ⌝ }
 {
-    match precede(events, state, m) {
+    match call_head(kinds, joints, events, state, m, node, recovery) {
         Opened::Open(s1, o) => match arg_list(kinds, joints, events, s1, inner) {
-            Closed::Done(s2, _) => complete(events, s2, o, CALL_EXPR),
+            Closed::Done(s2, _) => complete(events, s2, o, node),
             Closed::Refused(r) => Closed::Refused(r),
         },
         Opened::Refused(r) => Closed::Refused(r),
     }
 }
 
+// What stands before the arguments.
+fn call_head(
+    kinds: &&[u8],
+    joints: &&[u8],
+    events: &mut [u64],
+    state: State,
+    m: CompletedMarker,
+    node: u8,
+    recovery: bool,
+) -> Opened
+    ensures { λ r. ⌜ (openedReply r, now (events .exit)) ≡ run (lent (now (now (kinds .entry))) (now (now (joints .entry)))) (callHead (lent (now (now (kinds .entry))) (now (now (joints .entry)))) node recovery m) state (now (events .entry)) ⌝ }
+{
+    if node == CALL_EXPR {
+        return precede(events, state, m);
+    }
+    method_head(kinds, joints, events, state, m, recovery)
+}
+
 // e.g. x[1][2]
 fn index_expr(
-    kinds: &[u8],
-    joints: &[u8],
+    kinds: &&[u8],
+    joints: &&[u8],
     events: &mut [u64],
     state: State,
     m: CompletedMarker,
     inner: Depth,
 ) -> Closed
-    ensures { λ r. ⌜ (closedReply r, now (events .exit)) ≡ run (lent (now (kinds .entry)) (now (joints .entry))) (indexExpr (lent (now (kinds .entry)) (now (joints .entry))) (exprBp (inner .0) (lent (now (kinds .entry)) (now (joints .entry)))) m) state (now (events .entry)) ⌝ }
+    ensures { λ r. ⌜ (closedReply r, now (events .exit)) ≡ run (lent (now (now (kinds .entry))) (now (now (joints .entry)))) (indexExpr (lent (now (now (kinds .entry))) (now (now (joints .entry)))) (exprBp (inner .0) (lent (now (now (kinds .entry))) (now (now (joints .entry))))) m) state (now (events .entry)) ⌝ }
 {
     match lead(kinds, joints, events, state, m, L_BRACK) {
         Opened::Open(s1, o) => match expr_bp(kinds, joints, events, s1, TOP, inner) {
@@ -626,14 +664,14 @@ fn index_expr(
 
 // A start before a node, and its dot unless a float's was read.
 fn dotted(
-    kinds: &[u8],
-    joints: &[u8],
+    kinds: &&[u8],
+    joints: &&[u8],
     events: &mut [u64],
     state: State,
     m: CompletedMarker,
     recovery: bool,
 ) -> Opened
-    ensures { λ r. ⌜ (openedReply r, now (events .exit)) ≡ run (lent (now (kinds .entry)) (now (joints .entry))) (dotted recovery m) state (now (events .entry)) ⌝ }
+    ensures { λ r. ⌜ (openedReply r, now (events .exit)) ≡ run (lent (now (now (kinds .entry))) (now (now (joints .entry)))) (dotted recovery m) state (now (events .entry)) ⌝ }
 {
     if recovery {
         return precede(events, state, m);
@@ -641,36 +679,15 @@ fn dotted(
     lead(kinds, joints, events, state, m, DOT)
 }
 
-// e.g. x.foo(), x.0. call()
-fn method_call_expr(
-    kinds: &[u8],
-    joints: &[u8],
-    events: &mut [u64],
-    state: State,
-    m: CompletedMarker,
-    recovery: bool,
-    inner: Depth,
-) -> Closed
-    ensures { λ r. ⌜ (closedReply r, now (events .exit)) ≡ run (lent (now (kinds .entry)) (now (joints .entry))) (methodCallExpr (lent (now (kinds .entry)) (now (joints .entry))) (exprBp (inner .0) (lent (now (kinds .entry)) (now (joints .entry)))) recovery m) state (now (events .entry)) ⌝ }
-{
-    match method_head(kinds, joints, events, state, m, recovery) {
-        Opened::Open(s1, o) => match arg_list(kinds, joints, events, s1, inner) {
-            Closed::Done(s2, _) => complete(events, s2, o, METHOD_CALL_EXPR),
-            Closed::Refused(r) => Closed::Refused(r),
-        },
-        Opened::Refused(r) => Closed::Refused(r),
-    }
-}
-
 fn method_head(
-    kinds: &[u8],
-    joints: &[u8],
+    kinds: &&[u8],
+    joints: &&[u8],
     events: &mut [u64],
     state: State,
     m: CompletedMarker,
     recovery: bool,
 ) -> Opened
-    ensures { λ r. ⌜ (openedReply r, now (events .exit)) ≡ run (lent (now (kinds .entry)) (now (joints .entry))) (methodHead (lent (now (kinds .entry)) (now (joints .entry))) recovery m) state (now (events .entry)) ⌝ }
+    ensures { λ r. ⌜ (openedReply r, now (events .exit)) ≡ run (lent (now (now (kinds .entry))) (now (now (joints .entry)))) (methodHead (lent (now (now (kinds .entry))) (now (now (joints .entry)))) recovery m) state (now (events .entry)) ⌝ }
 {
     match dotted(kinds, joints, events, state, m, recovery) {
         Opened::Open(s1, o) => match method_name(kinds, joints, events, s1) {
@@ -681,11 +698,11 @@ fn method_head(
     }
 }
 
-fn method_name(kinds: &[u8], joints: &[u8], events: &mut [u64], state: State) -> Moved
-    ensures { λ r. ⌜ (movedReply r, now (events .exit)) ≡ run (lent (now (kinds .entry)) (now (joints .entry))) (methodName (lent (now (kinds .entry)) (now (joints .entry)))) state (now (events .entry)) ⌝ }
+fn method_name(kinds: &&[u8], joints: &&[u8], events: &mut [u64], state: State) -> Moved
+    ensures { λ r. ⌜ (movedReply r, now (events .exit)) ≡ run (lent (now (now (kinds .entry))) (now (now (joints .entry)))) (methodName (lent (now (now (kinds .entry))) (now (now (joints .entry))))) state (now (events .entry)) ⌝ }
 {
     let at = state.pos.0;
-    let kind = kind_at(kinds, at);
+    let kind = kind_at(*kinds, at);
     if kind != IDENT {
         return error(events, state, EXPECTED_METHOD_NAME);
     }
@@ -696,11 +713,11 @@ fn method_name(kinds: &[u8], joints: &[u8], events: &mut [u64], state: State) ->
 }
 
 // Generic arguments are outside the cut.
-fn no_generics(kinds: &[u8], joints: &[u8], events: &mut [u64], state: State) -> Moved
-    ensures { λ r. ⌜ (movedReply r, now (events .exit)) ≡ run (lent (now (kinds .entry)) (now (joints .entry))) (noGenerics (lent (now (kinds .entry)) (now (joints .entry)))) state (now (events .entry)) ⌝ }
+fn no_generics(kinds: &&[u8], joints: &&[u8], events: &mut [u64], state: State) -> Moved
+    ensures { λ r. ⌜ (movedReply r, now (events .exit)) ≡ run (lent (now (now (kinds .entry))) (now (now (joints .entry)))) (noGenerics (lent (now (now (kinds .entry))) (now (now (joints .entry))))) state (now (events .entry)) ⌝ }
 {
     let at = state.pos.0;
-    if nth_at(kinds, joints, at, COLON2) {
+    if nth_at(*kinds, *joints, at, COLON2) {
         return Moved::Refused(Refusal {
             number: OUTSIDE_CUT,
             place: at,
@@ -711,14 +728,14 @@ fn no_generics(kinds: &[u8], joints: &[u8], events: &mut [u64], state: State) ->
 
 // e.g. x.await, x.0. await
 fn await_expr(
-    kinds: &[u8],
-    joints: &[u8],
+    kinds: &&[u8],
+    joints: &&[u8],
     events: &mut [u64],
     state: State,
     m: CompletedMarker,
     recovery: bool,
 ) -> Closed
-    ensures { λ r. ⌜ (closedReply r, now (events .exit)) ≡ run (lent (now (kinds .entry)) (now (joints .entry))) (awaitExpr recovery m) state (now (events .entry)) ⌝ }
+    ensures { λ r. ⌜ (closedReply r, now (events .exit)) ≡ run (lent (now (now (kinds .entry))) (now (now (joints .entry)))) (awaitExpr recovery m) state (now (events .entry)) ⌝ }
 {
     match dotted(kinds, joints, events, state, m, recovery) {
         Opened::Open(s1, o) => match bump(kinds, joints, events, s1, AWAIT_KW) {
@@ -731,14 +748,14 @@ fn await_expr(
 
 // e.g. x.foo, x.0, x.0.1, x.0. bar
 fn field_expr(
-    kinds: &[u8],
-    joints: &[u8],
+    kinds: &&[u8],
+    joints: &&[u8],
     events: &mut [u64],
     state: State,
     m: CompletedMarker,
     recovery: bool,
 ) -> Postfix
-    ensures { λ r. ⌜ (postfixReply r, now (events .exit)) ≡ run (lent (now (kinds .entry)) (now (joints .entry))) (fieldExpr (lent (now (kinds .entry)) (now (joints .entry))) recovery m) state (now (events .entry)) ⌝ }
+    ensures { λ r. ⌜ (postfixReply r, now (events .exit)) ≡ run (lent (now (now (kinds .entry))) (now (now (joints .entry)))) (fieldExpr (lent (now (now (kinds .entry))) (now (now (joints .entry)))) recovery m) state (now (events .entry)) ⌝ }
 {
     match dotted(kinds, joints, events, state, m, recovery) {
         Opened::Open(s1, o) => field(kinds, joints, events, s1, o),
@@ -746,11 +763,11 @@ fn field_expr(
     }
 }
 
-fn field(kinds: &[u8], joints: &[u8], events: &mut [u64], state: State, m: Marker) -> Postfix
-    ensures { λ r. ⌜ (postfixReply r, now (events .exit)) ≡ run (lent (now (kinds .entry)) (now (joints .entry))) (field (lent (now (kinds .entry)) (now (joints .entry))) m) state (now (events .entry)) ⌝ }
+fn field(kinds: &&[u8], joints: &&[u8], events: &mut [u64], state: State, m: Marker) -> Postfix
+    ensures { λ r. ⌜ (postfixReply r, now (events .exit)) ≡ run (lent (now (now (kinds .entry))) (now (now (joints .entry)))) (field (lent (now (now (kinds .entry))) (now (now (joints .entry)))) m) state (now (events .entry)) ⌝ }
 {
     let at = state.pos.0;
-    let kind = kind_at(kinds, at);
+    let kind = kind_at(*kinds, at);
     if is_field_name(kind) {
         return postfix_of(named_field(kinds, joints, events, state, m));
     }
@@ -760,8 +777,8 @@ fn field(kinds: &[u8], joints: &[u8], events: &mut [u64], state: State, m: Marke
     postfix_of(no_field(kinds, joints, events, state, m))
 }
 
-fn named_field(kinds: &[u8], joints: &[u8], events: &mut [u64], state: State, m: Marker) -> Closed
-    ensures { λ r. ⌜ (closedReply r, now (events .exit)) ≡ run (lent (now (kinds .entry)) (now (joints .entry))) (namedField m) state (now (events .entry)) ⌝ }
+fn named_field(kinds: &&[u8], joints: &&[u8], events: &mut [u64], state: State, m: Marker) -> Closed
+    ensures { λ r. ⌜ (closedReply r, now (events .exit)) ≡ run (lent (now (now (kinds .entry))) (now (now (joints .entry)))) (namedField m) state (now (events .entry)) ⌝ }
 {
     match leaf(kinds, joints, events, state, NAME_REF) {
         Closed::Done(s1, _) => complete(events, s1, m, FIELD_EXPR),
@@ -769,8 +786,8 @@ fn named_field(kinds: &[u8], joints: &[u8], events: &mut [u64], state: State, m:
     }
 }
 
-fn no_field(kinds: &[u8], joints: &[u8], events: &mut [u64], state: State, m: Marker) -> Closed
-    ensures { λ r. ⌜ (closedReply r, now (events .exit)) ≡ run (lent (now (kinds .entry)) (now (joints .entry))) (noField m) state (now (events .entry)) ⌝ }
+fn no_field(kinds: &&[u8], joints: &&[u8], events: &mut [u64], state: State, m: Marker) -> Closed
+    ensures { λ r. ⌜ (closedReply r, now (events .exit)) ≡ run (lent (now (now (kinds .entry))) (now (now (joints .entry)))) (noField m) state (now (events .entry)) ⌝ }
 {
     match error(events, state, EXPECTED_FIELD) {
         Moved::On(s1) => complete(events, s1, m, FIELD_EXPR),
@@ -779,12 +796,18 @@ fn no_field(kinds: &[u8], joints: &[u8], events: &mut [u64], state: State, m: Ma
 }
 
 // A float in field place is split; one that ends in a dot has the next name's dot read already.
-fn float_field(kinds: &[u8], joints: &[u8], events: &mut [u64], state: State, m: Marker) -> Postfix
-    ensures { λ r. ⌜ (postfixReply r, now (events .exit)) ≡ run (lent (now (kinds .entry)) (now (joints .entry))) (floatField (lent (now (kinds .entry)) (now (joints .entry))) m) state (now (events .entry)) ⌝ }
+fn float_field(
+    kinds: &&[u8],
+    joints: &&[u8],
+    events: &mut [u64],
+    state: State,
+    m: Marker,
+) -> Postfix
+    ensures { λ r. ⌜ (postfixReply r, now (events .exit)) ≡ run (lent (now (now (kinds .entry))) (now (now (joints .entry)))) (floatField (lent (now (now (kinds .entry))) (now (now (joints .entry)))) m) state (now (events .entry)) ⌝ }
 {
     let at = state.pos.0;
-    let joint = joint_at(joints, at);
-    match split_float(kinds, joints, events, state, m) {
+    let joint = joint_at(*joints, at);
+    match split_float(*kinds, *joints, events, state, m) {
         Parted::Split(s1, c) => Postfix::Again(s1, c, joint == 0),
         Parted::No => Postfix::Refused(Refusal {
             number: UNFIT,
@@ -796,13 +819,13 @@ fn float_field(kinds: &[u8], joints: &[u8], events: &mut [u64], state: State, m:
 
 // e.g. x?
 fn try_expr(
-    kinds: &[u8],
-    joints: &[u8],
+    kinds: &&[u8],
+    joints: &&[u8],
     events: &mut [u64],
     state: State,
     m: CompletedMarker,
 ) -> Closed
-    ensures { λ r. ⌜ (closedReply r, now (events .exit)) ≡ run (lent (now (kinds .entry)) (now (joints .entry))) (tryExpr m) state (now (events .entry)) ⌝ }
+    ensures { λ r. ⌜ (closedReply r, now (events .exit)) ≡ run (lent (now (now (kinds .entry))) (now (now (joints .entry)))) (tryExpr m) state (now (events .entry)) ⌝ }
 {
     match lead(kinds, joints, events, state, m, QUESTION) {
         Opened::Open(s1, o) => complete(events, s1, o, TRY_EXPR),
@@ -811,8 +834,8 @@ fn try_expr(
 }
 
 // e.g. (1, 2,)
-fn arg_list(kinds: &[u8], joints: &[u8], events: &mut [u64], state: State, inner: Depth) -> Closed
-    ensures { λ r. ⌜ (closedReply r, now (events .exit)) ≡ run (lent (now (kinds .entry)) (now (joints .entry))) (argList (lent (now (kinds .entry)) (now (joints .entry))) (exprBp (inner .0) (lent (now (kinds .entry)) (now (joints .entry))))) state (now (events .entry)) ⌝ }
+fn arg_list(kinds: &&[u8], joints: &&[u8], events: &mut [u64], state: State, inner: Depth) -> Closed
+    ensures { λ r. ⌜ (closedReply r, now (events .exit)) ≡ run (lent (now (now (kinds .entry))) (now (now (joints .entry)))) (argList (lent (now (now (kinds .entry))) (now (now (joints .entry)))) (exprBp (inner .0) (lent (now (now (kinds .entry))) (now (now (joints .entry)))))) state (now (events .entry)) ⌝ }
 {
     match begin(kinds, joints, events, state, L_PAREN) {
         Opened::Open(s1, m) => match args(kinds, joints, events, s1, inner) {
@@ -832,8 +855,8 @@ fn arg_list(kinds: &[u8], joints: &[u8], events: &mut [u64], state: State, inner
     }
 }
 
-fn args(kinds: &[u8], joints: &[u8], events: &mut [u64], state: State, inner: Depth) -> Moved
-    ensures { λ r. ⌜ (movedReply r, now (events .exit)) ≡ run (lent (now (kinds .entry)) (now (joints .entry))) (arguments (lent (now (kinds .entry)) (now (joints .entry))) (exprBp (inner .0) (lent (now (kinds .entry)) (now (joints .entry))))) state (now (events .entry)) ⌝ }
+fn args(kinds: &&[u8], joints: &&[u8], events: &mut [u64], state: State, inner: Depth) -> Moved
+    ensures { λ r. ⌜ (movedReply r, now (events .exit)) ≡ run (lent (now (now (kinds .entry))) (now (now (joints .entry)))) (arguments (lent (now (now (kinds .entry))) (now (now (joints .entry)))) (exprBp (inner .0) (lent (now (now (kinds .entry))) (now (now (joints .entry)))))) state (now (events .entry)) ⌝ }
 {
     let mut s = state;
     loop {
@@ -846,11 +869,11 @@ fn args(kinds: &[u8], joints: &[u8], events: &mut [u64], state: State, inner: De
 }
 
 // One argument and the comma after it, or the end.
-fn arg(kinds: &[u8], joints: &[u8], events: &mut [u64], state: State, inner: Depth) -> Args
-    ensures { λ r. ⌜ (argsReply r, now (events .exit)) ≡ run (lent (now (kinds .entry)) (now (joints .entry))) (argument (lent (now (kinds .entry)) (now (joints .entry))) (exprBp (inner .0) (lent (now (kinds .entry)) (now (joints .entry))))) state (now (events .entry)) ⌝ }
+fn arg(kinds: &&[u8], joints: &&[u8], events: &mut [u64], state: State, inner: Depth) -> Args
+    ensures { λ r. ⌜ (argsReply r, now (events .exit)) ≡ run (lent (now (now (kinds .entry))) (now (now (joints .entry)))) (argument (lent (now (now (kinds .entry))) (now (now (joints .entry)))) (exprBp (inner .0) (lent (now (now (kinds .entry))) (now (now (joints .entry)))))) state (now (events .entry)) ⌝ }
 {
     let at = state.pos.0;
-    let kind = kind_at(kinds, at);
+    let kind = kind_at(*kinds, at);
     if ends_arguments(kind) {
         return Args::End(state);
     }
@@ -865,8 +888,8 @@ fn arg(kinds: &[u8], joints: &[u8], events: &mut [u64], state: State, inner: Dep
 }
 
 // A comma where an expression should be.
-fn lone_comma(kinds: &[u8], joints: &[u8], events: &mut [u64], state: State) -> Args
-    ensures { λ r. ⌜ (argsReply r, now (events .exit)) ≡ run (lent (now (kinds .entry)) (now (joints .entry))) (loneComma) state (now (events .entry)) ⌝ }
+fn lone_comma(kinds: &&[u8], joints: &&[u8], events: &mut [u64], state: State) -> Args
+    ensures { λ r. ⌜ (argsReply r, now (events .exit)) ≡ run (lent (now (now (kinds .entry))) (now (now (joints .entry)))) (loneComma) state (now (events .entry)) ⌝ }
 {
     match err_and_bump(kinds, joints, events, state) {
         Moved::On(s1) => Args::More(s1),
@@ -885,10 +908,10 @@ fn args_end(reading: Reading) -> Args
     }
 }
 
-fn after_argument(kinds: &[u8], joints: &[u8], events: &mut [u64], state: State) -> Args
-    ensures { λ r. ⌜ (argsReply r, now (events .exit)) ≡ run (lent (now (kinds .entry)) (now (joints .entry))) (afterArgument (lent (now (kinds .entry)) (now (joints .entry)))) state (now (events .entry)) ⌝ }
+fn after_argument(kinds: &&[u8], joints: &&[u8], events: &mut [u64], state: State) -> Args
+    ensures { λ r. ⌜ (argsReply r, now (events .exit)) ≡ run (lent (now (now (kinds .entry))) (now (now (joints .entry)))) (afterArgument (lent (now (now (kinds .entry))) (now (now (joints .entry))))) state (now (events .entry)) ⌝ }
 {
-    match eat(kinds, joints, events, state, COMMA) {
+    match eat(*kinds, *joints, events, state, COMMA) {
         Taken::Took(s1) => Args::More(s1),
         Taken::No => no_comma(kinds, joints, events, state),
         Taken::Refused(r) => Args::Refused(r),
@@ -896,11 +919,11 @@ fn after_argument(kinds: &[u8], joints: &[u8], events: &mut [u64], state: State)
 }
 
 // Before a first token the comma is missing; otherwise the arguments end.
-fn no_comma(kinds: &[u8], joints: &[u8], events: &mut [u64], state: State) -> Args
-    ensures { λ r. ⌜ (argsReply r, now (events .exit)) ≡ run (lent (now (kinds .entry)) (now (joints .entry))) (noComma (lent (now (kinds .entry)) (now (joints .entry)))) state (now (events .entry)) ⌝ }
+fn no_comma(kinds: &&[u8], joints: &&[u8], events: &mut [u64], state: State) -> Args
+    ensures { λ r. ⌜ (argsReply r, now (events .exit)) ≡ run (lent (now (now (kinds .entry))) (now (now (joints .entry)))) (noComma (lent (now (now (kinds .entry))) (now (now (joints .entry))))) state (now (events .entry)) ⌝ }
 {
     let at = state.pos.0;
-    let kind = kind_at(kinds, at);
+    let kind = kind_at(*kinds, at);
     if !is_first(kind) {
         return Args::End(state);
     }
@@ -911,11 +934,17 @@ fn no_comma(kinds: &[u8], joints: &[u8], events: &mut [u64], state: State) -> Ar
 }
 
 // A literal, a path or a parenthesis.
-fn atom_expr(kinds: &[u8], joints: &[u8], events: &mut [u64], state: State, inner: Depth) -> Reading
-    ensures { λ r. ⌜ (readingReply r, now (events .exit)) ≡ run (lent (now (kinds .entry)) (now (joints .entry))) (atomExpr (lent (now (kinds .entry)) (now (joints .entry))) (exprBp (inner .0) (lent (now (kinds .entry)) (now (joints .entry))))) state (now (events .entry)) ⌝ }
+fn atom_expr(
+    kinds: &&[u8],
+    joints: &&[u8],
+    events: &mut [u64],
+    state: State,
+    inner: Depth,
+) -> Reading
+    ensures { λ r. ⌜ (readingReply r, now (events .exit)) ≡ run (lent (now (now (kinds .entry))) (now (now (joints .entry)))) (atomExpr (lent (now (now (kinds .entry))) (now (now (joints .entry)))) (exprBp (inner .0) (lent (now (now (kinds .entry))) (now (now (joints .entry)))))) state (now (events .entry)) ⌝ }
 {
     let at = state.pos.0;
-    let kind = kind_at(kinds, at);
+    let kind = kind_at(*kinds, at);
     if kind == IDENT {
         return reading_of(path_node(kinds, joints, events, state, PATH_EXPR));
     }
@@ -926,11 +955,11 @@ fn atom_expr(kinds: &[u8], joints: &[u8], events: &mut [u64], state: State, inne
 }
 
 // A literal; a `.` that is no range; what the cut leaves out.
-fn plain_atom(kinds: &[u8], joints: &[u8], events: &mut [u64], state: State) -> Reading
-    ensures { λ r. ⌜ (readingReply r, now (events .exit)) ≡ run (lent (now (kinds .entry)) (now (joints .entry))) (plainAtom (lent (now (kinds .entry)) (now (joints .entry)))) state (now (events .entry)) ⌝ }
+fn plain_atom(kinds: &&[u8], joints: &&[u8], events: &mut [u64], state: State) -> Reading
+    ensures { λ r. ⌜ (readingReply r, now (events .exit)) ≡ run (lent (now (now (kinds .entry))) (now (now (joints .entry)))) (plainAtom (lent (now (now (kinds .entry))) (now (now (joints .entry))))) state (now (events .entry)) ⌝ }
 {
     let at = state.pos.0;
-    let kind = kind_at(kinds, at);
+    let kind = kind_at(*kinds, at);
     if outside_atom(kind) {
         return Reading::Refused(Refusal {
             number: OUTSIDE_CUT,
@@ -944,8 +973,8 @@ fn plain_atom(kinds: &[u8], joints: &[u8], events: &mut [u64], state: State) -> 
 }
 
 // A `.` that is no range.
-fn lone_dot(kinds: &[u8], joints: &[u8], events: &mut [u64], state: State) -> Reading
-    ensures { λ r. ⌜ (readingReply r, now (events .exit)) ≡ run (lent (now (kinds .entry)) (now (joints .entry))) (loneDot (lent (now (kinds .entry)) (now (joints .entry)))) state (now (events .entry)) ⌝ }
+fn lone_dot(kinds: &&[u8], joints: &&[u8], events: &mut [u64], state: State) -> Reading
+    ensures { λ r. ⌜ (readingReply r, now (events .exit)) ≡ run (lent (now (now (kinds .entry))) (now (now (joints .entry)))) (loneDot (lent (now (now (kinds .entry))) (now (now (joints .entry))))) state (now (events .entry)) ⌝ }
 {
     match err_recover(kinds, joints, events, state) {
         Moved::On(s1) => Reading::NoExpr(s1),
@@ -954,13 +983,13 @@ fn lone_dot(kinds: &[u8], joints: &[u8], events: &mut [u64], state: State) -> Re
 }
 
 // e.g. (1 + 2)
-fn paren(kinds: &[u8], joints: &[u8], events: &mut [u64], state: State, inner: Depth) -> Closed
-    ensures { λ r. ⌜ (closedReply r, now (events .exit)) ≡ run (lent (now (kinds .entry)) (now (joints .entry))) (parenExpr (lent (now (kinds .entry)) (now (joints .entry))) (exprBp (inner .0) (lent (now (kinds .entry)) (now (joints .entry))))) state (now (events .entry)) ⌝ }
+fn paren(kinds: &&[u8], joints: &&[u8], events: &mut [u64], state: State, inner: Depth) -> Closed
+    ensures { λ r. ⌜ (closedReply r, now (events .exit)) ≡ run (lent (now (now (kinds .entry))) (now (now (joints .entry)))) (parenExpr (lent (now (now (kinds .entry))) (now (now (joints .entry)))) (exprBp (inner .0) (lent (now (now (kinds .entry))) (now (now (joints .entry)))))) state (now (events .entry)) ⌝ }
 {
     match begin(kinds, joints, events, state, L_PAREN) {
         Opened::Open(s1, m) => {
             let at = s1.pos.0;
-            let kind = kind_at(kinds, at);
+            let kind = kind_at(*kinds, at);
             if kind == R_PAREN {
                 return Closed::Refused(Refusal {
                     number: OUTSIDE_CUT,
@@ -987,11 +1016,11 @@ fn paren(kinds: &[u8], joints: &[u8], events: &mut [u64], state: State, inner: D
 }
 
 // A tuple is outside the cut.
-fn paren_tail(kinds: &[u8], joints: &[u8], events: &mut [u64], state: State, m: Marker) -> Closed
-    ensures { λ r. ⌜ (closedReply r, now (events .exit)) ≡ run (lent (now (kinds .entry)) (now (joints .entry))) (parenTail (lent (now (kinds .entry)) (now (joints .entry))) m) state (now (events .entry)) ⌝ }
+fn paren_tail(kinds: &&[u8], joints: &&[u8], events: &mut [u64], state: State, m: Marker) -> Closed
+    ensures { λ r. ⌜ (closedReply r, now (events .exit)) ≡ run (lent (now (now (kinds .entry))) (now (now (joints .entry)))) (parenTail (lent (now (now (kinds .entry))) (now (now (joints .entry)))) m) state (now (events .entry)) ⌝ }
 {
     let at = state.pos.0;
-    let kind = kind_at(kinds, at);
+    let kind = kind_at(*kinds, at);
     if kind == COMMA {
         return Closed::Refused(Refusal {
             number: OUTSIDE_CUT,

@@ -43,8 +43,8 @@ fn read(kinds: &[u8], joints: &[u8], events: &mut [u64], steps: &mut [u32]) -> P
     ensures { λ r. ⌜ (r, now (events .exit), now (steps .exit)) ≡ onRead (now (steps .entry)) (topOf (lent (now (kinds .entry)) (now (joints .entry))) (now (events .entry))) ⌝ }
 {
     match grammar::expressions::expr_bp(
-        kinds,
-        joints,
+        &kinds,
+        &joints,
         events,
         State::fresh(),
         TOP,

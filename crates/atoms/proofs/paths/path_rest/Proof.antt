@@ -1,4 +1,5 @@
 -- The loop over `::` and names meets its rule: what is left to do is the whole, and fewer tokens are left after each turn. Assumes nothing.
+use denote.Ref.{now}
 use mathlib.Core.Path.{_≡_, refl}
 use Prim.Native.Nat.{_-_}
 use native.Mathlib.Omega.{arith}
@@ -19,10 +20,10 @@ use Rattle.atoms.proofs.paths.path_turn.Reads as path-turn-reads
 abbrev Inv-loop : tie.InvT-loop
 Inv-loop kinds joints events₀ s₀ m₀ events s m =
     (length events ≡ length events₀)
-    × Rest (lent kinds joints) (pathTurn (lent kinds joints)) (λ z. length kinds - z .0 .pos .0) (run (lent kinds joints) (pathRest (lent kinds joints) m₀) s₀ events₀) (s, m, events)
+    × Rest (lent (now kinds) (now joints)) (pathTurn (lent (now kinds) (now joints))) (λ z. length (now kinds) - z .0 .pos .0) (run (lent (now kinds) (now joints)) (pathRest (lent (now kinds) (now joints)) m₀) s₀ events₀) (s, m, events)
 
 abbrev μ-loop : tie.MeasureT-loop
-μ-loop kinds joints events₀ s₀ m₀ events s m = length kinds - s .pos .0
+μ-loop kinds joints events₀ s₀ m₀ events s m = length (now kinds) - s .pos .0
 
 -- src/paths.rt:80:5
 loop-holds : tie.Need-loop-holds Inv-loop μ-loop
@@ -43,7 +44,7 @@ loop-less c = search path-less depth 6
 
 -- src/paths.rt:80:5
 loop-again : tie.Need-loop-again Inv-loop μ-loop
-loop-again c = (search needs, rest-again _ _ _ _ _ (c .before .before .before .before .before .before .before .loop .inv .1) (search turnings depth 10) (search path-less depth 6))
+loop-again c = (search needs, rest-again _ _ _ _ _ (c .before .before .before .before .before .before .before .before .before .loop .inv .1) (search turnings depth 10) (search path-less depth 6))
 
 -- src/paths.rt:86:24
 enum-known-s1-2 : tie.Need-enum-known-s1-2 Inv-loop μ-loop

@@ -18,7 +18,7 @@ use Rattle.input.proofs.nth_at.Reads as nth-at-reads
 -- src/paths.rt:102:31
 add-kind-at : tie.Need-add-kind-at
 add-kind-at c =
-    let h : c .before .before .before .before .before .args .state .pos .0 + 2 ≤ length (now (c .before .before .before .before .before .args .kinds)) = colon-inside (now (c .before .before .before .before .before .args .kinds)) (now (c .before .before .before .before .before .args .joints)) (c .before .before .before .before .before .args .state .pos .0) (c .before .nth-at .ensures) (c .if1 .left) in
+    let h : c .before .before .before .before .before .args .state .pos .0 + 2 ≤ length (now (c .before .before .before .before .before .args .t1)) = colon-inside (now (c .before .before .before .before .before .args .t1)) (now (c .before .before .before .before .before .args .t2)) (c .before .before .before .before .before .args .state .pos .0) (c .before .nth-at .ensures) (c .if1 .left) in
     search needs
 
 pub path-turn-spec : {M : Type 1} → statement M

@@ -1,4 +1,5 @@
 -- The loop over the postfix forms meets its rule: what is left to do is the whole, and fewer tokens are left after each turn. Assumes nothing.
+use denote.Ref.{now}
 use mathlib.Core.Path.{_≡_, refl}
 use Prim.Native.Nat.{_+_, _-_, _*_}
 use native.Mathlib.Omega.{arith}
@@ -12,16 +13,16 @@ use Rattle.grammar.proofs.Moves.{postfix-less, flagOf}
 use Prim.Native.Nat.{ℕ}
 use borrow.Author.Needs.{needs}
 use Rattle.grammar.proofs.expressions.postfix_expr.Reads as postfix-expr
-use Rattle.grammar.proofs.expressions.+arg+arg_list+args+atom_expr+atoms+begun+call_expr+expr+expr_bp+index_expr+infixed+leading+lhs+method_call_expr+oper+ops+paren+postfix_dot_expr+postfix_expr+range+refer+tail+unary.Lts-postfix_expr as postfix-expr-lts
-use Rattle.grammar.proofs.expressions.+arg+arg_list+args+atom_expr+atoms+begun+call_expr+expr+expr_bp+index_expr+infixed+leading+lhs+method_call_expr+oper+ops+paren+postfix_dot_expr+postfix_expr+range+refer+tail+unary.Proof.Common.{postfix-expr-at, postfix-expr-calls}
+use Rattle.grammar.proofs.expressions.+arg+arg_list+args+atom_expr+atoms+begun+call_expr+expr+expr_bp+index_expr+infixed+leading+lhs+oper+ops+paren+postfix_expr+range+refer+tail+unary.Lts-postfix_expr as postfix-expr-lts
+use Rattle.grammar.proofs.expressions.+arg+arg_list+args+atom_expr+atoms+begun+call_expr+expr+expr_bp+index_expr+infixed+leading+lhs+oper+ops+paren+postfix_expr+range+refer+tail+unary.Proof.Common.{postfix-expr-at, postfix-expr-calls}
 
 abbrev postfix-expr-Inv-loop : postfix-expr-lts.InvT-loop
 postfix-expr-Inv-loop kinds joints events₀ inner s₀ m₀ recovery₀ events s m recovery =
     (length events ≡ length events₀)
-    × Rest (lent kinds joints) (postfixTurn (lent kinds joints) (exprBp (inner .0) (lent kinds joints))) (λ z. 2 * (length kinds - z .0 .pos .0) + flagOf (z .1 .1)) (run (lent kinds joints) (postfixExpr (lent kinds joints) (exprBp (inner .0) (lent kinds joints)) m₀) s₀ events₀) (s, (m, recovery), events)
+    × Rest (lent (now kinds) (now joints)) (postfixTurn (lent (now kinds) (now joints)) (exprBp (inner .0) (lent (now kinds) (now joints)))) (λ z. 2 * (length (now kinds) - z .0 .pos .0) + flagOf (z .1 .1)) (run (lent (now kinds) (now joints)) (postfixExpr (lent (now kinds) (now joints)) (exprBp (inner .0) (lent (now kinds) (now joints))) m₀) s₀ events₀) (s, (m, recovery), events)
 
 abbrev postfix-expr-μ-loop : postfix-expr-lts.MeasureT-loop
-postfix-expr-μ-loop kinds joints events₀ inner s₀ m₀ recovery₀ events s m recovery = 2 * (length kinds - s .pos .0) + flagOf recovery
+postfix-expr-μ-loop kinds joints events₀ inner s₀ m₀ recovery₀ events s m recovery = 2 * (length (now kinds) - s .pos .0) + flagOf recovery
 
 pub postfix-expr-met : {M : Type 1} (t : ℕ) → postfix-expr-lts.Closed (postfix-expr-calls t) (postfix-expr-at t) postfix-expr.Post M
 unfolding postfixExpr

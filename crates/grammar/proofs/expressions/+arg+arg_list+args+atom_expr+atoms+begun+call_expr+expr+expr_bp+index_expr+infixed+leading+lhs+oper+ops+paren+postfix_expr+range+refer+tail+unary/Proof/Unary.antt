@@ -4,8 +4,8 @@ use Rattle.grammar.specs.Expressions.{prefixExpr}
 use Prim.Native.Nat.{ℕ}
 use borrow.Author.Needs.{needs}
 use Rattle.grammar.proofs.expressions.unary.Reads as unary
-use Rattle.grammar.proofs.expressions.+arg+arg_list+args+atom_expr+atoms+begun+call_expr+expr+expr_bp+index_expr+infixed+leading+lhs+method_call_expr+oper+ops+paren+postfix_dot_expr+postfix_expr+range+refer+tail+unary.Lts-unary as unary-lts
-use Rattle.grammar.proofs.expressions.+arg+arg_list+args+atom_expr+atoms+begun+call_expr+expr+expr_bp+index_expr+infixed+leading+lhs+method_call_expr+oper+ops+paren+postfix_dot_expr+postfix_expr+range+refer+tail+unary.Proof.Common.{unary-at, unary-calls}
+use Rattle.grammar.proofs.expressions.+arg+arg_list+args+atom_expr+atoms+begun+call_expr+expr+expr_bp+index_expr+infixed+leading+lhs+oper+ops+paren+postfix_expr+range+refer+tail+unary.Lts-unary as unary-lts
+use Rattle.grammar.proofs.expressions.+arg+arg_list+args+atom_expr+atoms+begun+call_expr+expr+expr_bp+index_expr+infixed+leading+lhs+oper+ops+paren+postfix_expr+range+refer+tail+unary.Proof.Common.{unary-at, unary-calls}
 
 pub unary-met : {M : Type 1} (t : ℕ) → unary-lts.Closed (unary-calls t) (unary-at t) unary.Post M
 unfolding prefixExpr

@@ -1,4 +1,5 @@
 -- The loop over the operators meets its rule: what is left to do is the whole, and fewer tokens are left after each turn. Assumes nothing.
+use denote.Ref.{now}
 use mathlib.Core.Path.{_≡_, refl}
 use Prim.Native.Nat.{_+_, _-_, _*_}
 use native.Mathlib.Omega.{arith}
@@ -12,16 +13,16 @@ use Rattle.grammar.proofs.Moves.{operator-less}
 use Prim.Native.Nat.{ℕ}
 use borrow.Author.Needs.{needs}
 use Rattle.grammar.proofs.expressions.ops.Reads as ops
-use Rattle.grammar.proofs.expressions.+arg+arg_list+args+atom_expr+atoms+begun+call_expr+expr+expr_bp+index_expr+infixed+leading+lhs+method_call_expr+oper+ops+paren+postfix_dot_expr+postfix_expr+range+refer+tail+unary.Lts-ops as ops-lts
-use Rattle.grammar.proofs.expressions.+arg+arg_list+args+atom_expr+atoms+begun+call_expr+expr+expr_bp+index_expr+infixed+leading+lhs+method_call_expr+oper+ops+paren+postfix_dot_expr+postfix_expr+range+refer+tail+unary.Proof.Common.{ops-at, ops-calls}
+use Rattle.grammar.proofs.expressions.+arg+arg_list+args+atom_expr+atoms+begun+call_expr+expr+expr_bp+index_expr+infixed+leading+lhs+oper+ops+paren+postfix_expr+range+refer+tail+unary.Lts-ops as ops-lts
+use Rattle.grammar.proofs.expressions.+arg+arg_list+args+atom_expr+atoms+begun+call_expr+expr+expr_bp+index_expr+infixed+leading+lhs+oper+ops+paren+postfix_expr+range+refer+tail+unary.Proof.Common.{ops-at, ops-calls}
 
 abbrev ops-Inv-loop : ops-lts.InvT-loop
 ops-Inv-loop kinds joints events₀ b inner s₀ m₀ events s m =
     (length events ≡ length events₀)
-    × Rest (lent kinds joints) (operatorTurn (lent kinds joints) (exprBp (inner .0) (lent kinds joints)) b) (λ z. length kinds - z .0 .pos .0) (run (lent kinds joints) (operators (lent kinds joints) (exprBp (inner .0) (lent kinds joints)) b m₀) s₀ events₀) (s, m, events)
+    × Rest (lent (now kinds) (now joints)) (operatorTurn (lent (now kinds) (now joints)) (exprBp (inner .0) (lent (now kinds) (now joints))) b) (λ z. length (now kinds) - z .0 .pos .0) (run (lent (now kinds) (now joints)) (operators (lent (now kinds) (now joints)) (exprBp (inner .0) (lent (now kinds) (now joints))) b m₀) s₀ events₀) (s, m, events)
 
 abbrev ops-μ-loop : ops-lts.MeasureT-loop
-ops-μ-loop kinds joints events₀ b inner s₀ m₀ events s m = length kinds - s .pos .0
+ops-μ-loop kinds joints events₀ b inner s₀ m₀ events s m = length (now kinds) - s .pos .0
 
 pub ops-met : {M : Type 1} (t : ℕ) → ops-lts.Closed (ops-calls t) (ops-at t) ops.Post M
 unfolding operators

@@ -4,8 +4,8 @@ use Rattle.grammar.specs.Expressions.{indexExpr}
 use Prim.Native.Nat.{ℕ}
 use borrow.Author.Needs.{needs}
 use Rattle.grammar.proofs.expressions.index_expr.Reads as index-expr
-use Rattle.grammar.proofs.expressions.+arg+arg_list+args+atom_expr+atoms+begun+call_expr+expr+expr_bp+index_expr+infixed+leading+lhs+method_call_expr+oper+ops+paren+postfix_dot_expr+postfix_expr+range+refer+tail+unary.Lts-index_expr as index-expr-lts
-use Rattle.grammar.proofs.expressions.+arg+arg_list+args+atom_expr+atoms+begun+call_expr+expr+expr_bp+index_expr+infixed+leading+lhs+method_call_expr+oper+ops+paren+postfix_dot_expr+postfix_expr+range+refer+tail+unary.Proof.Common.{index-expr-at, index-expr-calls}
+use Rattle.grammar.proofs.expressions.+arg+arg_list+args+atom_expr+atoms+begun+call_expr+expr+expr_bp+index_expr+infixed+leading+lhs+oper+ops+paren+postfix_expr+range+refer+tail+unary.Lts-index_expr as index-expr-lts
+use Rattle.grammar.proofs.expressions.+arg+arg_list+args+atom_expr+atoms+begun+call_expr+expr+expr_bp+index_expr+infixed+leading+lhs+oper+ops+paren+postfix_expr+range+refer+tail+unary.Proof.Common.{index-expr-at, index-expr-calls}
 
 pub index-expr-met : {M : Type 1} (t : ℕ) → index-expr-lts.Closed (index-expr-calls t) (index-expr-at t) index-expr.Post M
 unfolding indexExpr

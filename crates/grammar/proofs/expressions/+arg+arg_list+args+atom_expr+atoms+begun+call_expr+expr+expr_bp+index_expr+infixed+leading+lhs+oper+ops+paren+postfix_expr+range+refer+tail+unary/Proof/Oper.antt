@@ -4,8 +4,8 @@ use Rattle.grammar.specs.Expressions.{operatorTurn}
 use Prim.Native.Nat.{ℕ}
 use borrow.Author.Needs.{needs}
 use Rattle.grammar.proofs.expressions.oper.Reads as oper
-use Rattle.grammar.proofs.expressions.+arg+arg_list+args+atom_expr+atoms+begun+call_expr+expr+expr_bp+index_expr+infixed+leading+lhs+method_call_expr+oper+ops+paren+postfix_dot_expr+postfix_expr+range+refer+tail+unary.Lts-oper as oper-lts
-use Rattle.grammar.proofs.expressions.+arg+arg_list+args+atom_expr+atoms+begun+call_expr+expr+expr_bp+index_expr+infixed+leading+lhs+method_call_expr+oper+ops+paren+postfix_dot_expr+postfix_expr+range+refer+tail+unary.Proof.Common.{oper-at, oper-calls}
+use Rattle.grammar.proofs.expressions.+arg+arg_list+args+atom_expr+atoms+begun+call_expr+expr+expr_bp+index_expr+infixed+leading+lhs+oper+ops+paren+postfix_expr+range+refer+tail+unary.Lts-oper as oper-lts
+use Rattle.grammar.proofs.expressions.+arg+arg_list+args+atom_expr+atoms+begun+call_expr+expr+expr_bp+index_expr+infixed+leading+lhs+oper+ops+paren+postfix_expr+range+refer+tail+unary.Proof.Common.{oper-at, oper-calls}
 
 pub oper-met : {M : Type 1} (t : ℕ) → oper-lts.Closed (oper-calls t) (oper-at t) oper.Post M
 unfolding operatorTurn
