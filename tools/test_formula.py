@@ -1,17 +1,16 @@
 """Tests of formula.py. The numbers here are the document's, written out by
 hand, so that a slip in the tool's tables can't hide in the tests."""
 
-import os
-import shlex
-import subprocess
-import sys
-import tempfile
+import re
 import unittest
 
 import formula
-from formula import Answer, AnswerFault, LexError, Refusal, Token
-
-TOOL = os.path.join(os.path.dirname(os.path.abspath(__file__)), 'formula.py')
+import testing
+from formula import (Answer, AnswerFault, LexError, Refusal, Token, cli,
+                     texts)
+from formula.drawing import refusal_lines, text_lines, tree_lines
+from formula.source import Source
+from formula.tree import Tree
 
 (ERROR, LITERAL, PATH_EXPR, PATH, PATH_SEGMENT, NAME_REF, PAREN_EXPR, REF_EXPR,
  PREFIX_EXPR, BIN_EXPR, RANGE_EXPR, CALL_EXPR, ARG_LIST, INDEX_EXPR,
@@ -61,12 +60,22 @@ def joints(text):
     return [t.joint for t in formula.lex(text)]
 
 
-def texts(text):
+def spellings(text):
     return [t.text for t in formula.lex(text)]
 
 
+def tree(text, consumed, steps):
+    return Tree(Source(text), Answer(consumed, steps))
+
+
 def drawn(text, consumed, steps):
-    return formula.draw(formula.lex(text), Answer(consumed, steps))
+    """Every node, two blanks a level, without columns."""
+    return indented(tree_lines(tree(text, consumed, steps).roots, full=True))
+
+
+def indented(lines):
+    return ''.join(re.sub('[│├└─ ]{3}', '  ', line[:line.rindex('  ')])
+                   .rstrip() + '\n' for line in lines)
 
 
 class Lexing(unittest.TestCase):
@@ -74,7 +83,7 @@ class Lexing(unittest.TestCase):
         text = ('a 1 1.5 "s" true false as mut await'
                 ' ( ) [ ] , : . & | + - * / % ^ ! = < > ?')
         self.assertEqual(kinds(text), list(range(1, 30)))
-        self.assertEqual(texts(text), text.split())
+        self.assertEqual(spellings(text), text.split())
 
     def test_the_example_of_the_usage_text(self):
         text = '-a as T * (b[0].x + 1)'
@@ -118,7 +127,7 @@ class Lexing(unittest.TestCase):
             '1./**/2': ['1.', '2'],
         }
         for text, expected in cases.items():
-            self.assertEqual(texts(text), expected, text)
+            self.assertEqual(spellings(text), expected, text)
 
     def test_strings(self):
         for text in ('""', '"a b"', r'"\""', r'"\\"', '"a\nb"', 'r"\\"',
@@ -126,7 +135,7 @@ class Lexing(unittest.TestCase):
             self.assertEqual(kinds(text), [4], text)
 
     def test_comments_and_blanks_are_skipped(self):
-        self.assertEqual(texts('a // b\n+ /* c /* d */ e */ 1\t'),
+        self.assertEqual(spellings('a // b\n+ /* c /* d */ e */ 1\t'),
                          ['a', '+', '1'])
         self.assertEqual(formula.lex(' // nothing'), [])
 
@@ -176,11 +185,11 @@ class Joints(unittest.TestCase):
             self.assertEqual(tuple(t.kind for t in parts), formula.GLUED[kind])
             self.assertEqual([t.joint for t in parts],
                              [1] * (len(parts) - 1) + [0])
-            self.assertEqual(formula._longest_glued(tokens, 1), len(spelling))
+            self.assertEqual(Source('', tokens).longest_glued(1), len(spelling))
 
     def test_parts_apart_are_not_glued(self):
-        self.assertEqual(formula._longest_glued(formula.lex('. .'), 0), 1)
-        self.assertEqual(formula._longest_glued(formula.lex('.. .'), 0), 2)
+        self.assertEqual(Source('. .').longest_glued(0), 1)
+        self.assertEqual(Source('.. .').longest_glued(0), 2)
 
 
 class TextOutsideTheCut(unittest.TestCase):
@@ -291,7 +300,7 @@ class Drawings(unittest.TestCase):
         steps = [enter(ERROR), error(1), LEAVE]
         self.assertEqual(drawn('', 0, steps),
                          'ERROR\n'
-                         '  error: expected expression, at the end\n')
+                         '  error: expected expression (1)\n')
 
     def test_p2_prefix(self):
         steps = [65624, 131353, 65617, 131330, 196608, 196608]
@@ -342,8 +351,10 @@ class Drawings(unittest.TestCase):
                          'RANGE_EXPR\n'
                          '  LITERAL\n'
                          '    INT_NUMBER 1\n'
-                         '  DOT2 ..\n'
-                         'unread: + 2\n')
+                         '  DOT2 ..\n')
+        self.assertEqual(text_lines(tree('1.. + 2', 3, steps)),
+                         ['1.. + 2',
+                          '    ^^^ unread: the reading ends before this'])
 
     def test_p9_a_float_split_in_two(self):
         steps = [enter(FIELD_EXPR), enter(FIELD_EXPR), *path(), token(16),
@@ -384,8 +395,8 @@ class Drawings(unittest.TestCase):
                          + path_drawn('a', 1) +
                          '  L_BRACK [\n'
                          '  ERROR\n'
-                         '    error: expected expression, at the end\n'
-                         '  error: expected `]`, at the end\n')
+                         '    error: expected expression (1)\n'
+                         '  error: expected `]` (6)\n')
 
     def test_p12_two_references(self):
         steps = [enter(REF_EXPR), token(17), enter(REF_EXPR), token(17),
@@ -407,16 +418,12 @@ class Drawings(unittest.TestCase):
                          '    INT_NUMBER 1\n'
                          '  PLUS +\n'
                          '  ERROR\n'
-                         '    error: expected expression,'
-                         ' at token 2 `/` (column 5)\n'
-                         '    SLASH /\n'
-                         'unread: 2\n')
+                         '    error: expected expression (1)\n'
+                         '    SLASH /\n')
 
     def test_the_error_that_no_node_holds(self):
         self.assertEqual(drawn(') + 1', 0, [327681]),
-                         'error: expected expression,'
-                         ' at token 0 `)` (column 1)\n'
-                         'unread: ) + 1\n')
+                         'error: expected expression (1)\n')
 
     def test_a_float_without_a_dot_as_a_field(self):
         steps = [enter(FIELD_EXPR), enter(FIELD_EXPR), *path(), token(16),
@@ -426,8 +433,7 @@ class Drawings(unittest.TestCase):
                          '  FIELD_EXPR\n'
                          + path_drawn('a', 2) +
                          '    DOT .\n'
-                         '    error: illegal float literal,'
-                         ' at token 2 `1e5` (column 3)\n'
+                         '    error: illegal float literal, says this tool\n'
                          '    ERROR\n'
                          '      FLOAT_NUMBER 1e5\n')
 
@@ -443,7 +449,11 @@ class Drawings(unittest.TestCase):
 
 class Refusals(unittest.TestCase):
     def refused(self, text, number, place):
-        return formula.draw(formula.lex(text), Refusal(number, place))
+        return self.lines(Source(text), number, place)
+
+    def lines(self, source, number, place):
+        return ''.join(line + '\n' for line
+                       in refusal_lines(source, Refusal(number, place)))
 
     def test_a_form_outside_the_cut(self):
         self.assertEqual(self.refused('a.b::c', 7, 3),
@@ -452,11 +462,11 @@ class Refusals(unittest.TestCase):
                          '  a.b::c\n'
                          '     ^^\n')
 
-    def test_comments_leave_blanks(self):
+    def test_the_text_stands_on_one_line(self):
         self.assertEqual(self.refused('1 /* one */ as\n[ 2', 7, 2),
                          'refused: a form outside the cut (7),'
                          ' at token 2 `[` (column 16)\n'
-                         '  1           as [ 2\n'
+                         '  1 /* one */ as [ 2\n'
                          '                 ^\n')
 
     def test_at_the_end(self):
@@ -467,8 +477,8 @@ class Refusals(unittest.TestCase):
                          '    ^\n')
 
     def test_a_kind_that_has_no_name(self):
-        tokens = [Token(0, 0, '?', 0)]
-        self.assertEqual(formula.draw(tokens, Refusal(1, 0)),
+        source = Source('?', [Token(0, 0, '?', 0)])
+        self.assertEqual(self.lines(source, 1, 0),
                          'refused: a kind is not 1 to 29 (1),'
                          ' at token 0 `?` (column 1)\n'
                          '  ?\n'
@@ -571,41 +581,22 @@ class AnswersThatDoNotFit(unittest.TestCase):
     def test_the_tree_up_to_the_fault_is_kept(self):
         with self.assertRaises(AnswerFault) as caught:
             drawn('!1', 2, [65624, 131353, 0])
-        self.assertEqual(caught.exception.drawn, 'PREFIX_EXPR\n  BANG !\n')
+        self.assertEqual(indented(tree_lines(caught.exception.roots, True)),
+                         'PREFIX_EXPR\n  BANG !\n')
 
 
-class CommandLine(unittest.TestCase):
+class CommandLine(testing.Case):
     P2_ANSWER = ('consumed 2 steps 6\n65624\n131353\n65617\n131330\n196608\n'
                  '196608\n')
-    P2_DRAWN = 'PREFIX_EXPR\n  BANG !\n  LITERAL\n    INT_NUMBER 1\n'
-
-    def call(self, *arguments, given=b''):
-        environment = dict(os.environ, PYTHONIOENCODING='utf-8',
-                           PYTHONDONTWRITEBYTECODE='1')
-        return subprocess.run([sys.executable, TOOL, *arguments], input=given,
-                              capture_output=True, env=environment)
-
-    def assert_prints(self, expected, *arguments, given=b''):
-        done = self.call(*arguments, given=given)
-        self.assertEqual(done.stderr, b'')
-        self.assertEqual(done.stdout.decode('utf-8'), expected)
-        self.assertEqual(done.returncode, 0)
-
-    def assert_fails(self, status, words, *arguments, given=b''):
-        done = self.call(*arguments, given=given)
-        self.assertIn(words, done.stderr.decode('utf-8'))
-        self.assertEqual(done.stdout, b'')
-        self.assertEqual(done.returncode, status)
-
-    def program(self, source):
-        script = tempfile.NamedTemporaryFile('w', suffix='.py', delete=False)
-        self.addCleanup(os.remove, script.name)
-        with script:
-            script.write(source)
-        return shlex.join([sys.executable, script.name])
+    P2_DRAWN = ('!1\n'
+                'PREFIX_EXPR   1-2\n'
+                '├─ !          1\n'
+                '└─ LITERAL 1  2\n'
+                'columns: counted by this tool from the steps; all else is the'
+                ' answer of the proved program\n')
 
     def test_encode(self):
-        done = self.call('encode', '!1')
+        done = testing.call('encode', '!1')
         self.assertEqual(done.stdout, bytes([1, 2, 0, 25, 2, 2, 2, 0, 1, 0]))
         self.assert_prints('1 2 0 25 2 2 2 0 1 0\n',
                            'encode', '--decimal', '!1')
@@ -632,7 +623,7 @@ class CommandLine(unittest.TestCase):
                            'draw', '|', given=b'refused 7 at 0\n')
 
     def test_draw_of_an_answer_to_something_else(self):
-        self.assert_fails(1, 'PREFIX_EXPR\nTHE ANSWER DOES NOT FIT: step 1',
+        self.assert_fails(1, 'THE ANSWER DOES NOT FIT: step 1',
                           'draw', '-1', given=self.P2_ANSWER.encode())
 
     def test_show(self):
@@ -656,14 +647,23 @@ class CommandLine(unittest.TestCase):
                              '    ^\n', 'encode', '! if')
 
     def test_usage(self):
-        self.assert_prints(formula.__doc__, 'help')
-        self.assert_prints(formula.__doc__, 'encode', '--help')
+        self.assert_prints(texts.SUMMARY, 'help')
+        self.assert_prints(texts.HELP['encode'], 'help', 'encode')
+        self.assert_prints(texts.HELP['encode'], 'encode', '--help')
         self.assert_fails(2, 'usage:')
         self.assert_fails(2, 'usage:', 'paint', '!1')
-        self.assert_fails(2, 'usage:', 'encode')
+        self.assert_fails(2, 'usage: formula.py encode', 'encode')
         self.assert_fails(2, 'usage:', 'encode', '!1', '--decimals')
         self.assert_fails(2, 'usage:', 'encode', '--hex', '--decimal', '!1')
-        self.assert_fails(2, 'usage:', 'show', '!1')
+        self.assert_fails(2, 'usage:', 'show')
+        self.assert_fails(2, '--program wants a value', 'show', '--program')
+
+    def test_every_command_has_a_help(self):
+        for name in cli.COMMANDS:
+            self.assertTrue(texts.HELP[name].startswith(
+                f'formula.py {name} '), name)
+            self.assertIn(f'formula.py {name} ', texts.SUMMARY)
+            self.assertIn(f'formula.py {name} ', texts.example_of(name))
 
 
 if __name__ == '__main__':

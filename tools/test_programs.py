@@ -17,10 +17,18 @@ import unittest
 import cases
 import compare
 import formula
+import testing
 
 RUN = os.path.join(compare.ROOT, 'tools', 'run')
 READ, BATCH, COMPARE = [RUN, 'read'], [RUN, 'batch'], [RUN, 'compare']
 SECONDS = 60
+GIVEN = len(sys.argv) == 4 and __name__ == '__main__'
+
+
+def missing(*names):
+    """Whether to skip, and why: programs not built, and none given."""
+    unbuilt = [] if GIVEN else testing.unbuilt(names)
+    return bool(unbuilt), testing.NOT_BUILT + ', '.join(unbuilt)
 
 
 def run(program, data):
@@ -28,6 +36,7 @@ def run(program, data):
                           timeout=SECONDS, check=True).stdout.decode()
 
 
+@unittest.skipIf(*missing('read'))
 class Read(unittest.TestCase):
     def test_cases(self):
         """One run for each case that is not one of a great many alike."""
@@ -64,6 +73,7 @@ class Read(unittest.TestCase):
                              cases.BANG_ONE_ANSWER)
 
 
+@unittest.skipIf(*missing('read', 'compare'))
 class Compare(unittest.TestCase):
     FORMULAS = ('', '1', '-1', '!1', 'a + b', 'a + b * c', '(a + b) * c',
                 'a.0.1', 'a.0. b', 'f(1, x)', 'f(1, x, y)', 'a[', ')',
@@ -115,6 +125,7 @@ class Compare(unittest.TestCase):
                 self.assertEqual(run(COMPARE, data), text)
 
 
+@unittest.skipIf(*missing('batch'))
 class Batch(unittest.TestCase):
     def test_nothing(self):
         self.assertEqual(run(BATCH, b''), '')
@@ -154,7 +165,7 @@ class Batch(unittest.TestCase):
 
 
 if __name__ == '__main__':
-    if len(sys.argv) == 4:
+    if GIVEN:
         READ, BATCH, COMPARE = map(shlex.split, sys.argv[1:])
         del sys.argv[1:]
     unittest.main()
