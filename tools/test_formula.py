@@ -240,6 +240,20 @@ class StoredForm(unittest.TestCase):
     def test_empty(self):
         self.assertEqual(list(formula.encode([])), [1, 0, 0, 2, 0, 0])
 
+    def test_packed(self):
+        """02: tag 3, eight to a byte, first token in the lowest bit."""
+        self.assertEqual(list(formula.encode(formula.lex('!1'), packed=True)),
+                         [1, 2, 0, 25, 2, 3, 1, 0, 1])
+        self.assertEqual(list(formula.encode([], packed=True)),
+                         [1, 0, 0, 3, 0, 0])
+        nine = formula.lex('- -- ---- --')
+        self.assertEqual([t.joint for t in nine], [0, 1, 0, 1, 1, 1, 0, 1, 0])
+        self.assertEqual(list(formula.encode(nine, packed=True))[12:],
+                         [3, 2, 0, 0b10111010, 0])
+        nine = formula.lex('-' * 10)
+        self.assertEqual(list(formula.encode(nine, packed=True))[13:],
+                         [3, 2, 0, 255, 1])
+
     def test_low_byte_first(self):
         stored = formula.encode(formula.lex('-' * 258))
         self.assertEqual(list(stored[:3]), [1, 2, 1])
@@ -600,6 +614,8 @@ class CommandLine(testing.Case):
         self.assertEqual(done.stdout, bytes([1, 2, 0, 25, 2, 2, 2, 0, 1, 0]))
         self.assert_prints('1 2 0 25 2 2 2 0 1 0\n',
                            'encode', '--decimal', '!1')
+        self.assert_prints('1 2 0 25 2 3 1 0 1\n',
+                           'encode', '--packed', '--decimal', '!1')
         self.assert_prints('01 02 00 19 02 02 02 00 01 00\n',
                            'encode', '--hex', '!1')
 

@@ -29,7 +29,8 @@ def text_of(revisions, style):
 def _texts(revisions, style):
     for side, (name, reading) in enumerate(revisions.both):
         line = flat(reading.source.text)
-        spans = [(d[side].start, d[side].end) for d in revisions.differences]
+        spans = sorted(span for d in revisions.differences
+                       for span in d.spans(side))
         yield f'{name:8}{line}'
         if spans:
             yield ' ' * 8 + style.paint('bad', _caret_line(line, spans))

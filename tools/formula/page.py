@@ -1,5 +1,6 @@
 """Revisions as one page: HTML alone, no network, no script, no library."""
 
+import re
 from html import escape
 
 from .drawing import error_words, is_folded, folded_text
@@ -7,12 +8,14 @@ from .grouping import grouped
 from .lines import amount, columns, flat
 from .numbers import NODE_NAMES, step_words
 from .page_style import STYLE
-from .revisions import (difference_words, part_text, refused_words,
+from .revisions import (difference_words, marked_text, refused_words,
                         steps_words, warnings)
-from .tree import Leaf, Mark, walk
+from .tree import Leaf, Mark
 
 SIDES = 'first', 'second'
 NAMES = 'First', 'Second'
+UNREAD = ('<span class="unread"><span class="label">unread</span>',
+          '</span>')
 
 
 def page_of(compared, alone=()):
@@ -74,6 +77,10 @@ def _alone(alone):
             f'<ul>{items}</ul></section>\n')
 
 
+TREE_HEAD = ('<p class="tree-head" aria-hidden="true"><span>columns</span>'
+             '<span>step</span></p>')
+
+
 class _Pair:
     """The section of one pair. Ids: p1-first-d2 is difference 2 of pair 1."""
 
@@ -82,7 +89,7 @@ class _Pair:
         self.differing = {step.index for step in revisions.steps}
 
     def html(self):
-        title = self.revisions.title or f'Pair {self.number}'
+        title = (self.revisions.title or 'two revisions').capitalize()
         body = (self.refused() if self.revisions.refused
                 else self.compared())
         return (f'<section class="pair" id="p{self.number}">'
@@ -110,23 +117,24 @@ class _Pair:
             lines.append('<p>The grouping is the same: only parentheses'
                          ' differ.</p>')
         lines += [f'<p class="warning"><strong>Warning:</strong>'
-                  f' {escape(words)}.</p>' for words in warnings(revisions)]
+                  f' {_prose(words)}.</p>' for words in warnings(revisions)]
         if revisions.differences:
-            items = ''.join(self.finding(number, difference) for number,
-                            difference in enumerate(revisions.differences, 1))
+            items = ''.join(self.finding(*one) for one in self.numbered())
             lines.append(f'<ol class="findings">{items}</ol>')
         return f'<div class="verdict">{"".join(lines)}</div>'
 
     def finding(self, number, difference):
-        one, other = (
-            f'<a class="badge {SIDES[side]}"'
-            f' href="#{self.tree_id(side, number)}">'
-            f'{escape(part_text(difference[side], reading))}</a>'
-            for side, (_, reading) in enumerate(self.revisions.both))
-        note = '' if difference.shape else (
-            ' <span class="note">(a name or number: steps hold none)</span>')
-        return (f'<li title="{escape(difference_words(difference, self.revisions))}">'
-                f'{one} <span class="became">became</span> {other}{note}</li>')
+        one, other = (self.finding_side(number, difference, side)
+                      for side in (0, 1))
+        words = _prose(difference_words(difference, self.revisions))
+        return (f'<li>{one} <span class="became">→</span> {other}'
+                f'<div class="note">{words}</div></li>')
+
+    def finding_side(self, number, difference, side):
+        reading = self.revisions.both[side][1]
+        text = marked_text(difference, side, reading)
+        return (f'<a class="badge {SIDES[side]}"'
+                f' href="#{self.tree_id(side, number)}">{escape(text)}</a>')
 
     def tree_id(self, side, number):
         return f'p{self.number}-{SIDES[side]}-d{number}'
@@ -147,17 +155,20 @@ class _Pair:
     def text(self, side, reading):
         """The text, the differing parts marked, the unread rest too."""
         text = reading.source.text
-        spans = [(d[side].start, d[side].end, self.mark(side, n))
-                 for n, d in enumerate(self.revisions.differences, 1)]
+        spans = [(start, end, self.mark(side, number))
+                 for number, difference in self.numbered()
+                 for start, end in difference.spans(side)]
         if reading.tree.unread:
-            spans.append((*reading.tree.unread,
-                          ('<s class="unread" title="unread">', '</s>')))
+            spans.append((*reading.tree.unread, UNREAD))
         pieces, at = [], 0
         for start, end, (before, behind) in sorted(spans):
             pieces += [escape(flat(text[at:start])), before,
                        escape(flat(text[start:end])) or '∅', behind]
             at = max(at, end)
         return ''.join(pieces) + escape(flat(text[at:]))
+
+    def numbered(self):
+        return enumerate(self.revisions.differences, 1)
 
     def mark(self, side, number):
         return (f'<mark class="{SIDES[side]}"><a href="#'
@@ -167,37 +178,41 @@ class _Pair:
     # --------------------------------------------------------------- the tree
 
     def tree(self, side, tree):
-        parts = {d[side]: n for n, d
-                 in enumerate(self.revisions.differences, 1)}
-        inside = {p for part in parts for p in walk(part)}
+        anchors, marked = {}, set()
+        for number, difference in self.numbered():
+            anchors.setdefault(difference.nodes[side], []).append(number)
+            marked |= difference.covered(side)
         lines = ''.join(
-            self.line(side, part, depth, lead, parts.get(part), part in inside)
-            for root in tree.roots for part, depth, lead in _lines(root))
-        return f'<ol class="tree">{lines}</ol>'
+            self.line(side, part, place, anchors.get(part, ()),
+                      part in marked)
+            for root in tree.roots for part, *place in _lines(root))
+        return TREE_HEAD + f'<ol class="tree">{lines}</ol>'
 
-    def line(self, side, part, depth, lead, number, inside):
-        sort = ('differs' if inside
+    def line(self, side, part, place, numbers, marked):
+        depth, lead = place
+        sort = ('differs' if marked
                 else 'moved' if part.step in self.differing else 'same')
-        words = f'<span class="words">{_words(part)}</span>'
-        anchor = ''
-        if number:
-            anchor = f' id="{self.tree_id(side, number)}"'
-            words += (f' <a class="badge {SIDES[side]}" href="#'
-                      f'{self.tree_id(1 - side, number)}">≠ {number}'
-                      f'<span class="hidden"> differs, see the'
-                      f' {SIDES[1 - side]}</span></a>')
-        return (f'<li class="{sort}"{anchor}>'
+        badges = ''.join(self.badge(side, number) for number in numbers)
+        return (f'<li class="{sort}">'
                 f'<span class="lead" aria-hidden="true">{lead}</span>'
-                f'<span class="hidden">level {depth}: </span>{words}'
+                f'<span class="hidden">level {depth}: </span>'
+                f'<span class="words">{_words(part)}</span>{badges}'
                 f'<span class="columns">{columns(part.start, part.end)}</span>'
                 f'{self.step_link(side, part)}</li>')
+
+    def badge(self, side, number):
+        return (f'<a class="badge {SIDES[side]}"'
+                f' id="{self.tree_id(side, number)}"'
+                f' href="#{self.tree_id(1 - side, number)}">≠ {number}'
+                f'<span class="hidden"> differs, see the {SIDES[1 - side]}'
+                '</span></a>')
 
     def step_link(self, side, part):
         if part.step not in self.differing:
             return f'<span class="step">{part.step}</span>'
         return (f'<a class="step" href="#p{self.number}-s{part.step}"'
                 f' title="step {part.step}: what compare found">'
-                f'{part.step} ≠</a>')
+                f'≠ {part.step}</a>')
 
     # -------------------------------------------------------- compare's lines
 
@@ -218,6 +233,11 @@ class _Pair:
             for name, value in zip(SIDES, step[1:]))
         return (f'<tr id="p{self.number}-s{step.index}">'
                 f'<th scope="row">{step.index}</th>{cells}</tr>')
+
+
+def _prose(words):
+    """A sentence with its `formulas` set as such."""
+    return re.sub('`([^`]*)`', r'<code>\1</code>', escape(words))
 
 
 def _step(value):

@@ -26,6 +26,8 @@ def built(name):
 
 def command_of(name):
     """The command line of a program of the project, if it is built."""
+    if not os.path.isdir(os.path.join(ROOT, 'crates', name)):
+        raise FormulaError(f'the program `{name}` is not part of this tree')
     if not built(name):
         raise FormulaError(f'the program `{name}` is not built:'
                            f' `rt check {name}` proves and builds it')

@@ -5,14 +5,13 @@ import re
 from collections import namedtuple
 
 from .answer import NUMBER, most_bytes, parse_refusal
-from .drawing import FOLDED
 from .faults import AnswerFault
 from .grouping import grouped
 from .lines import amount, columns, flat, shortened
+from .matching import differences
 from .programs import command_of
 from .reading import answer_lines, read
 from .stored import encode
-from .tree import Leaf, Mark, fold
 
 COMPARE = 'compare'
 COMPARE_LIMIT = 256
@@ -22,9 +21,6 @@ EXTRA_LINE = re.compile(f'(first|second) {NUMBER} {NUMBER}')
 
 # A step at one index in both, or, with None on one side, in one alone.
 Step = namedtuple('Step', 'index first second')
-
-# Two parts, one of each tree; `shape` where not only names differ.
-Difference = namedtuple('Difference', 'first second shape')
 
 
 class Revisions:
@@ -39,8 +35,8 @@ class Revisions:
         self.differences = []
         if not self.refused:
             self._check()
-            self.differences = list(differences(self.first.tree.root,
-                                                self.second.tree.root))
+            self.differences = differences(self.first.tree.root,
+                                           self.second.tree.root)
 
     @property
     def both(self):
@@ -102,69 +98,6 @@ def _step_line(line):
             else Step(index, None, value))
 
 
-# ---------------------------------------------------- the smallest that differ
-
-class _Shapes:
-    """Equal numbers for equal trees, with and without names."""
-
-    def __init__(self, *roots):
-        self.numbers = {}
-        self.whole, self.bare, self.below = {}, {}, {}
-        for root in roots:
-            fold(root, self._number)
-
-    def _number(self, part, below):
-        parts = getattr(part, 'parts', ())
-        self.whole[part] = self._of(
-            part, getattr(part, 'text', ''), map(self.whole.get, parts))
-        self.bare[part] = self._of(part, '', map(self.bare.get, parts))
-        self.below[part] = frozenset().union(
-            *below, (self.whole[p] for p in parts))
-        return self.below[part]
-
-    def _of(self, part, text, parts):
-        sort = (part.words if isinstance(part, Mark) else part.kind)
-        key = type(part).__name__, sort, text, tuple(parts)
-        return self.numbers.setdefault(key, len(self.numbers))
-
-    def one_in_the_other(self, first, second):
-        return (self.whole[first] in self.below[second]
-                or self.whole[second] in self.below[first])
-
-
-def differences(first, second):
-    """The smallest parts of two trees that differ, in order."""
-    shapes = _Shapes(first, second)
-    stack = [(first, second)]
-    while stack:
-        one, other = stack.pop()
-        if shapes.whole[one] == shapes.whole[other]:
-            continue
-        if shapes.one_in_the_other(one, other) or not _alike(one, other):
-            yield Difference(one, other,
-                             shapes.bare[one] != shapes.bare[other])
-        else:
-            stack.extend(zip(reversed(one.parts), reversed(other.parts)))
-
-
-def _alike(one, other):
-    """Whether two parts differ in some part below them alone."""
-    if isinstance(one, (Leaf, Mark)) or isinstance(other, (Leaf, Mark)):
-        return False
-    if one.kind != other.kind or one.kind in FOLDED:
-        return False
-    if len(one.parts) != len(other.parts):
-        return False
-    return all(_same_place(p, q) for p, q in zip(one.parts, other.parts))
-
-
-def _same_place(part, other):
-    if isinstance(part, Leaf) or isinstance(other, Leaf):
-        return (type(part) is type(other) and part.kind == other.kind
-                and part.text == other.text)
-    return isinstance(part, Mark) == isinstance(other, Mark)
-
-
 # -------------------------------------------------------------------- in words
 
 def steps_words(steps):
@@ -182,19 +115,47 @@ def steps_words(steps):
 
 
 def difference_words(difference, revisions):
-    one, other = (f'`{part_text(part, reading)}` (column'
-                  f'{"s" if part.end > part.start + 1 else ""}'
-                  f' {columns(part.start, part.end)})'
-                  for part, (_, reading) in zip(difference, revisions.both))
-    if difference.shape:
-        return f'{one} became {other}'
-    return (f'{one} became {other}: a name or number, found by this tool;'
-            ' steps hold none')
+    """One difference in words."""
+    one, other = (node_words(difference.nodes[side], reading)
+                  for side, (_, reading) in enumerate(revisions.both))
+    ours, theirs = (f'`{marked_text(difference, side, reading)}`'
+                    for side, (_, reading) in enumerate(revisions.both))
+    if difference.sort == 'put around':
+        return f'{theirs} was put around {one}'
+    if difference.sort == 'taken away':
+        return f'{ours} was taken away from around {other}'
+    if difference.sort == 'changed':
+        return f'in {one}, ' + _change(difference, ours, theirs)
+    if difference.sort == 'renamed':
+        return (f'{one} became {other}: a name or a number, found by this'
+                ' tool; steps hold none')
+    return f'{one} became {other}'
+
+
+def _change(difference, ours, theirs):
+    if not difference.spans(0):
+        return f'{theirs} was added'
+    if not difference.spans(1):
+        return f'{ours} was taken out'
+    return f'{ours} became {theirs}'
+
+
+def node_words(part, reading):
+    several = 's' if part.end > part.start + 1 else ''
+    return (f'`{part_text(part, reading)}` (column{several}'
+            f' {columns(part.start, part.end)})')
 
 
 def part_text(part, reading):
     """A part of the tree as it was written."""
     return flat(reading.source.text[part.start:part.end]) or 'nothing'
+
+
+def marked_text(difference, side, reading):
+    """What is marked of a difference, as it was written."""
+    spans = difference.spans(side)
+    return ' .. '.join(flat(reading.source.text[start:end])
+                       for start, end in spans) or 'nothing'
 
 
 def warnings(revisions):
