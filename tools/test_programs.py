@@ -9,6 +9,7 @@ cases.py; what `compare` must print is worked out from what `read` prints.
 """
 
 import os
+import select
 import shlex
 import subprocess
 import sys
@@ -123,6 +124,34 @@ class Compare(unittest.TestCase):
                 (long + b'\x02', cases.refusal(3, 0))):
             with self.subTest(data=data):
                 self.assertEqual(run(COMPARE, data), text)
+
+
+@unittest.skipIf(*missing('read', 'batch', 'compare'))
+class LengthsAboveTheLimit(unittest.TestCase):
+    """docs/DECISIONS.md, 8: who waits for the end of the input, who not."""
+
+    def answers_while_open(self, program, data, seconds=SECONDS):
+        with subprocess.Popen(program, stdin=subprocess.PIPE,
+                              stdout=subprocess.PIPE) as process:
+            process.stdin.write(data)
+            process.stdin.flush()
+            ready, _, _ = select.select([process.stdout], [], [],
+                                        seconds)
+            process.stdin.close()
+            self.assertEqual(process.stdout.read().decode(),
+                             cases.refusal(3, 0))
+            return bool(ready)
+
+    def test_an_input_that_stays_open(self):
+        self.assertTrue(self.answers_while_open(READ, b'\x01\x01\x01'))
+        self.assertFalse(
+            self.answers_while_open(COMPARE, b'\x01\x01\x01', 1))
+        self.assertFalse(
+            self.answers_while_open(BATCH, b'\x01\x01\x10', 1))
+
+    def test_a_buffer_that_is_full(self):
+        full = b'\x01\x01\x01' + bytes(4 * (3 + 256) + 1 - 3)
+        self.assertTrue(self.answers_while_open(COMPARE, full))
 
 
 @unittest.skipIf(*missing('batch'))
