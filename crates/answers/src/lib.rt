@@ -9,7 +9,7 @@ use reader::Parsed;
 use stored::{Form, Limited, Stored};
 
 // How many tokens a list has that the program `read` reads: "refuses 3 at 0 at the first length above 256".
-#[derive(Drop)]
+#[derive(Clone, Copy)]
 pub struct Tokens(pub u16);
 
 impl Tokens {
@@ -17,7 +17,7 @@ impl Tokens {
 }
 
 // How many places a decimal number has. The largest u64 has as many as `LIMIT`.
-#[derive(Drop)]
+#[derive(Clone, Copy)]
 pub struct Places(pub usize);
 
 impl Places {
@@ -27,7 +27,7 @@ impl Places {
 }
 
 // The bytes of a text: at most `LINE` for a line of a number, and `HEAD` for the first line of an answer.
-#[derive(Drop)]
+#[derive(Clone, Copy)]
 pub struct Text(pub usize);
 
 impl Text {
@@ -37,7 +37,7 @@ impl Text {
 }
 
 // Room for events and steps: "Room of 16n + 16 events and as many steps is never refused by 4 or 5."
-#[derive(Drop)]
+#[derive(Clone, Copy)]
 pub struct Room(pub usize);
 
 impl Room {

@@ -8,7 +8,7 @@ use input::Refusal;
 use parser::CompletedMarker;
 
 // What a turn over operators, or over the names of a path, answers.
-#[derive(Drop)]
+#[derive(Clone, Copy)]
 pub enum Turn {
     Again(State, CompletedMarker),
     Done(State, CompletedMarker),

@@ -9,7 +9,7 @@ use libc::{STDIN_FILENO, STDOUT_FILENO};
 use stored::{Limited, Section, Span};
 
 // The bytes of a form: the longest has as many as `LIMIT`.
-#[derive(Drop)]
+#[derive(Clone, Copy)]
 pub struct Bytes(pub usize);
 
 impl Bytes {
@@ -22,7 +22,7 @@ const ANSWER: usize = Text::HEAD + Text::LINE * State::LIMIT;
 const PRINTED: usize = 2097152;
 
 // How far the run is: the bytes from `from` to `to` are read and unused, `text` bytes wait to be printed.
-#[derive(Drop)]
+#[derive(Clone, Copy)]
 pub struct Run {
     pub from: usize,
     pub to: usize,

@@ -5,7 +5,7 @@ ghost use Rattle.event.specs.Event.{START, tag_of, rank_of, flag_of, node_of, of
 use input::Position;
 
 // Where the machine stands: the raw position, and how many events of the lent list are used.
-#[derive(Drop)]
+#[derive(Clone, Copy)]
 pub struct State {
     pub pos: Position,
     pub count: usize,

@@ -6,7 +6,7 @@ use input::Refusal;
 use parser::CompletedMarker;
 
 // What a reading answers.
-#[derive(Drop)]
+#[derive(Clone, Copy)]
 pub enum Reading {
     Expr(State, CompletedMarker),
     NoExpr(State),
@@ -14,7 +14,7 @@ pub enum Reading {
 }
 
 // What a turn over postfix forms answers; the flag is the crate's FLOAT_RECOVERY for the next turn.
-#[derive(Drop)]
+#[derive(Clone, Copy)]
 pub enum Postfix {
     Again(State, CompletedMarker, bool),
     Done(State, CompletedMarker),
@@ -22,7 +22,7 @@ pub enum Postfix {
 }
 
 // What a turn over arguments answers.
-#[derive(Drop)]
+#[derive(Clone, Copy)]
 pub enum Args {
     More(State),
     End(State),

@@ -8,7 +8,7 @@ ghost use Rattle.input.specs.Input.{lent, stands, within, is_raw, is_glued, is_k
 use syntax_kind::*;
 
 // A raw position in a token list.
-#[derive(Drop)]
+#[derive(Clone, Copy)]
 pub struct Position(pub usize);
 
 impl Position {
@@ -23,7 +23,7 @@ impl Position {
 }
 
 // How many readings of an expression may still be opened.
-#[derive(Drop)]
+#[derive(Clone, Copy)]
 pub struct Depth(pub usize);
 
 impl Depth {
@@ -37,7 +37,7 @@ impl Depth {
 }
 
 // How many raw tokens a token is made of.
-#[derive(Drop)]
+#[derive(Clone, Copy)]
 pub struct Width(pub u8);
 
 impl Width {
@@ -51,7 +51,7 @@ impl Width {
 }
 
 // A row of the table of glued tokens; the third part of a row of width 2 is EOF.
-#[derive(Drop)]
+#[derive(Clone, Copy)]
 pub struct Glued {
     pub kind: u8,
     pub width: Width,
@@ -61,14 +61,14 @@ pub struct Glued {
 }
 
 // A number of the table of refusals, and its place.
-#[derive(Drop)]
+#[derive(Clone, Copy)]
 pub struct Refusal {
     pub number: u8,
     pub place: usize,
 }
 
 // What a check of tokens says.
-#[derive(Drop)]
+#[derive(Clone, Copy)]
 pub enum Checked {
     Fine,
     Refused(Refusal),

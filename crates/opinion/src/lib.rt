@@ -3,7 +3,7 @@
 use input::Refusal;
 
 // What an entry of a step list is.
-#[derive(Drop)]
+#[derive(Clone, Copy)]
 pub enum Step {
     Enter(u8),
     Token(u8),
@@ -15,7 +15,7 @@ pub enum Step {
 }
 
 // What a node holds: a node with its strength, a token, a split.
-#[derive(Drop)]
+#[derive(Clone, Copy)]
 pub enum Child {
     Node(usize, usize),
     Token(u8),
@@ -23,7 +23,7 @@ pub enum Child {
 }
 
 // What is kept of an open node: where it was entered, which node it is, how far its children have the shape, and a strength.
-#[derive(Drop)]
+#[derive(Clone, Copy)]
 pub struct Frame {
     pub at: usize,
     pub node: usize,
@@ -32,14 +32,14 @@ pub struct Frame {
 }
 
 // The number of a fault and the index at which it stands; 0 where there is none.
-#[derive(Drop)]
+#[derive(Clone, Copy)]
 pub struct Fault {
     pub number: u8,
     pub at: usize,
 }
 
 // How far the steps are checked: raw tokens taken, nodes open, whether a root was entered, the first fault that is known.
-#[derive(Drop)]
+#[derive(Clone, Copy)]
 pub struct Walk {
     pub pos: usize,
     pub open: usize,
@@ -48,7 +48,7 @@ pub struct Walk {
 }
 
 // What the checker says.
-#[derive(Drop)]
+#[derive(Clone, Copy)]
 pub enum Verdict {
     Accepted,
     Faulty(Fault),

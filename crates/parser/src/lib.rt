@@ -11,7 +11,7 @@ use input::syntax_kind::UNSOUND;
 use input::{Checked, Position, Refusal};
 
 // An open marker: the number of a start event that is neither completed nor spent.
-#[derive(Drop)]
+#[derive(Clone, Copy)]
 pub struct Marker(pub usize);
 
 impl Marker {
@@ -23,7 +23,7 @@ impl Marker {
 }
 
 // A closed marker: the number of a start event that has its name.
-#[derive(Drop)]
+#[derive(Clone, Copy)]
 pub struct CompletedMarker(pub usize);
 
 impl CompletedMarker {
@@ -35,28 +35,28 @@ impl CompletedMarker {
 }
 
 // What a call that opens a node answers: start, precede.
-#[derive(Drop)]
+#[derive(Clone, Copy)]
 pub enum Opened {
     Open(State, Marker),
     Refused(Refusal),
 }
 
 // What a call that closes a node answers: complete, extend_to.
-#[derive(Drop)]
+#[derive(Clone, Copy)]
 pub enum Closed {
     Done(State, CompletedMarker),
     Refused(Refusal),
 }
 
 // What a call without a marker to give answers: abandon, error.
-#[derive(Drop)]
+#[derive(Clone, Copy)]
 pub enum Moved {
     On(State),
     Refused(Refusal),
 }
 
 // What taking answers: eat, bump_any.
-#[derive(Drop)]
+#[derive(Clone, Copy)]
 pub enum Taken {
     Took(State),
     No,
@@ -64,7 +64,7 @@ pub enum Taken {
 }
 
 // What a split of a float answers.
-#[derive(Drop)]
+#[derive(Clone, Copy)]
 pub enum Parted {
     Split(State, CompletedMarker),
     No,

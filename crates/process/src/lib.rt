@@ -11,14 +11,14 @@ use input::syntax_kind::{
 use input::{Position, Refusal};
 
 // What the pass answers: the number of steps with the fresh state, or a refusal.
-#[derive(Drop)]
+#[derive(Clone, Copy)]
 pub enum Processed {
     Steps(usize, State),
     Refused(Refusal),
 }
 
 // How far the steps are written, and whether the event before was a split.
-#[derive(Drop)]
+#[derive(Clone, Copy)]
 struct Written {
     steps: usize,
     after: bool,

@@ -10,7 +10,7 @@ use input::{Checked, Depth, Refusal};
 use process::Processed;
 
 // What a reading of a token list answers: how many raw tokens were consumed and how many steps stand in the lent list, or a refusal.
-#[derive(Drop)]
+#[derive(Clone, Copy)]
 pub enum Parsed {
     Steps(usize, usize),
     Refused(Refusal),

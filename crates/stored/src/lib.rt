@@ -4,7 +4,7 @@ ghost use Rattle.std.specs.Prelude.{◌≡◌};
 ghost use Rattle.stored.specs.Stored.{length_of, head_of, section_of, first_of, stored_of, long_of, limited_of, part_of, kinds_of, joints_of};
 
 // The tag of a section. All tags stand here and nowhere else.
-#[derive(Drop)]
+#[derive(Clone, Copy)]
 pub struct Tag(pub u8);
 
 impl Tag {
@@ -14,7 +14,7 @@ impl Tag {
 }
 
 // What the head of a section says.
-#[derive(Drop)]
+#[derive(Clone, Copy)]
 pub enum Head {
     // As many payload bytes follow.
     Length(usize),
@@ -23,14 +23,14 @@ pub enum Head {
 }
 
 // Where a part of the bytes starts, and how long it is.
-#[derive(Drop)]
+#[derive(Clone, Copy)]
 pub struct Span {
     pub at: usize,
     pub len: usize,
 }
 
 // What stands where a section should.
-#[derive(Drop)]
+#[derive(Clone, Copy)]
 pub enum Section {
     // Its payload.
     Payload(Span),
@@ -50,7 +50,7 @@ impl Section {
 }
 
 // Where the parts of a whole form stand: both payloads, and the place after the last byte.
-#[derive(Drop)]
+#[derive(Clone, Copy)]
 pub struct Form {
     pub kinds: Span,
     pub joints: Span,
@@ -58,7 +58,7 @@ pub struct Form {
 }
 
 // What bytes hold.
-#[derive(Drop)]
+#[derive(Clone, Copy)]
 pub enum Stored {
     Whole(Form),
     // Refusal 10 at this place.
@@ -66,7 +66,7 @@ pub enum Stored {
 }
 
 // What bytes hold for a reader that takes no length above its limit.
-#[derive(Drop)]
+#[derive(Clone, Copy)]
 pub enum Limited {
     Whole(Form),
     // A length above the limit: refusal 3 at 0.

@@ -13,4 +13,4 @@ put_held_spec =
     (λ c. search rules)
     (λ c. search rules)
     (λ c. search rules)
-    (λ c. put_answered c.before.before.before.before.before.before.before.before.before.answer-of.ensures c.before.before.put-answer.ensures))
+    (λ c. put_answered c.before.before.before.before.before.before.before.before.before.answer_of.ensures c.before.before.put_answer.ensures))

@@ -10,12 +10,12 @@ unfolding width_limit
 check_ahead_spec =
     tie.close
     (tie.spec
-    (λ c. none_ahead _ _ c.if1.true)
+    (λ c. none_ahead _ _ c.if-kinds-at.true)
     (λ c. search rules)
     (λ c. search rules)
     (λ c κs. search rules)
-    (λ c. few_ahead _ _ c.before.if2.true c.check-bytes.ensures)
+    (λ c. few_ahead _ _ c.before.if-kinds-at-2.true c.check_bytes.ensures)
     (λ c. search rules)
     (λ c. search rules)
     (λ c κs. search rules)
-    (λ c. more_ahead _ _ c.before.if2.false c.check-bytes2.ensures))
+    (λ c. more_ahead _ _ c.before.if-kinds-at-2.false c.check_bytes-2.ensures))

@@ -9,7 +9,7 @@ nth_at_spec =
     tie.close
     (tie.spec
     (λ c κs. search rules)
-    (λ c κs. is_row _ c.before.is-glued.ensures c.if1.true)
+    (λ c κs. is_row _ c.before.is_glued.ensures c.if-is_glued.true)
     (λ c κs. search rules)
     (λ c. search (is_present, is_stood) depth 8)
     (λ c κs. search rules)

@@ -12,12 +12,12 @@ parts_at_spec =
     tie.close
     (tie.spec
     (λ c κs. search rules)
-    (λ c. omega (arith, is_inside _ _ _ c.before.before.before.before.stands-joint.ensures c.before.before.before.if1.true))
+    (λ c. omega (arith, is_inside _ _ _ c.before.before.before.before.stands_joint.ensures c.before.before.before.if-stands_joint.true))
     (λ c κs. search rules)
     (λ c. is_parts _ _ _ (search tests depth 10))
-    (λ c. omega (arith, is_inside _ _ _ c.before.before.before.before.stands-joint.ensures c.before.before.before.if1.true))
+    (λ c. omega (arith, is_inside _ _ _ c.before.before.before.before.stands_joint.ensures c.before.before.before.if-stands_joint.true))
     (λ c κs. search rules)
-    (λ c. omega (arith, is_inside _ _ _ c.before.stands-joint2.ensures c.if3.true))
+    (λ c. omega (arith, is_inside _ _ _ c.before.stands_joint-then-stands_joint.ensures c.if-stands_joint-2.true))
     (λ c κs. search rules)
     (λ c. is_parts _ _ _ (search tests depth 10))
     (λ c. is_parts _ _ _ (search tests depth 10))

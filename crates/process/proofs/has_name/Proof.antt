@@ -10,4 +10,4 @@ use Rattle.process.proofs.has_name.Tie as tie
 
 pub has_name_spec : {M : Type 1} → statement M
 unfolding has_name
-has_name_spec = tie.close (tie.spec (λ c κs. search rules) (λ c κs. search rules) (λ c. whether_is _ _ _ _ c.before.before.tag_of.ensures c.before.if1.taken (ap (λ z. ltb SPENT z) c.rank-of.ensures)) (λ c. search (rules, rules) depth 8))
+has_name_spec = tie.close (tie.spec (λ c κs. search rules) (λ c κs. search rules) (λ c. whether_is _ _ _ _ c.before.before.tag_of.ensures c.before.if1.taken (ap (λ z. ltb SPENT z) c.rank_of.ensures)) (λ c. search (rules, rules) depth 8))

@@ -11,4 +11,4 @@ pub visited_spec : {M : Type 1} → statement M
 unfolding visited
 visited_spec =
     tie.close
-    (tie.spec (λ c κs. search rules) (λ c κs. search rules) (λ c κs. search rules) (λ c. whether_is _ _ _ _ c.before.before.before.tag_of.ensures c.before.before.if1.taken (c.extended-entry.ensures ∙ ap (λ z. extended_entry z 0) c.before.start-entry.ensures)) (λ c. search (rules, rules) depth 8))
+    (tie.spec (λ c κs. search rules) (λ c κs. search rules) (λ c κs. search rules) (λ c. whether_is _ _ _ _ c.before.before.before.tag_of.ensures c.before.before.if1.taken (c.extended_entry.ensures ∙ ap (λ z. extended_entry z 0) c.before.start_entry.ensures)) (λ c. search (rules, rules) depth 8))

@@ -38,7 +38,7 @@ loop-less : tie.Need-loop-smaller invariant-loop decreases-loop
 loop-less c = search rules
 
 loop-again : tie.Need-loop-preserved invariant-loop decreases-loop
-loop-again c = let l = c.before.before.before.before.loop in (search rules, omega arith, same_more _ _ l.i c.before.before.step-at.ensures c.before.step-at2.ensures l.invariant.2 (search rules))
+loop-again c = let l = c.before.before.before.before.loop in (search rules, omega arith, same_more _ _ l.i c.before.before.step_at.ensures c.before.step-at2.ensures l.invariant.2 (search rules))
 
 returns-2 : tie.Need-returns-2 invariant-loop decreases-loop
 returns-2 c = search (not_same, rules)

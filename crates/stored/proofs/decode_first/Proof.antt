@@ -16,7 +16,7 @@ decode_first_spec =
     (tie.spec
     (λ c κs. search rules)
     (λ c. search rules)
-    (λ c. omega (arith, section_fits _ _ _ c.before.before.before.before.section-at.ensures c.before.before.kinds.given.1))
+    (λ c. omega (arith, section_fits _ _ _ c.before.before.before.before.section_at.ensures c.before.before.kinds.given.1))
     (λ c κs. search rules)
     (λ c. search rules)
     (λ c. omega (arith, section_fits _ _ _ c.before.before.before.before.section-at2.ensures c.before.before.joints.given.1))

@@ -7,4 +7,4 @@ use Rattle.parser.proofs.inner.is_parentless.Statement.{statement}
 use Rattle.parser.proofs.inner.is_parentless.Tie as tie
 
 pub is_parentless_spec : {M : Type 1} → statement M
-is_parentless_spec = tie.close (tie.spec (λ c κs. search rules) (λ c κs. search rules) (λ c. ap (λ z. eqb z 0) (c.offset-of.ensures ∙ ap (λ z. offset_of z) c.before.event-at.ensures)))
+is_parentless_spec = tie.close (tie.spec (λ c κs. search rules) (λ c κs. search rules) (λ c. ap (λ z. eqb z 0) (c.offset_of.ensures ∙ ap (λ z. offset_of z) c.before.event_at.ensures)))

@@ -27,4 +27,4 @@ split_two_spec =
     (λ c κs. search rules)
     (λ c. search room depth 6)
     (λ c. search rules)
-    (λ c. whether_held _ _ _ c.before.before.before.before.before.before.before.before.before.before.before.before.before.before.before.before.before.before.before.before.room_for.ensures.0 c.before.before.before.before.before.before.before.before.before.before.before.before.before.before.before.before.before.before.before.if1.false (parted_at _ _ _ _ _ c.before.before.before.before.before.before.before.before.before.before.before.before.before.before.before.before.before.before.before.before.before.before.before.requires.0 (stored _ _ _ c.before.before.put3.ensures (stored _ _ _ c.before.before.before.before.before.before.before.put2.ensures (stored _ _ _ c.before.before.before.before.before.before.before.before.before.before.before.before.put.ensures c.before.before.before.before.before.before.before.before.before.before.before.before.before.before.before.before.before.parent-start.ensures c.before.before.before.before.before.before.before.before.before.before.before.before.before.field-entry.ensures) c.before.before.before.before.before.before.before.before.split-entry.ensures) c.before.before.before.finish-entry.ensures))))
+    (λ c. whether_held _ _ _ c.before.before.before.before.before.before.before.before.before.before.before.before.before.before.before.before.before.before.before.before.room_for.ensures.0 c.before.before.before.before.before.before.before.before.before.before.before.before.before.before.before.before.before.before.before.if1.false (parted_at _ _ _ _ _ c.before.before.before.before.before.before.before.before.before.before.before.before.before.before.before.before.before.before.before.before.before.before.before.requires.0 (stored _ _ _ c.before.before.put3.ensures (stored _ _ _ c.before.before.before.before.before.before.before.put2.ensures (stored _ _ _ c.before.before.before.before.before.before.before.before.before.before.before.before.put.ensures c.before.before.before.before.before.before.before.before.before.before.before.before.before.before.before.before.before.parent_start.ensures c.before.before.before.before.before.before.before.before.before.before.before.before.before.field_entry.ensures) c.before.before.before.before.before.before.before.before.split_entry.ensures) c.before.before.before.finish_entry.ensures))))

@@ -22,11 +22,11 @@ arg-met t =
     (λ c. search rules)
     (λ c κs. search rules)
     (λ c. search rules)
-    (λ c. search (grammar, c.args_end.ensures, c.before.match.keys2, c.before.before.before.before.expr-bp.ensures, c.before.before.before.before.before.before.if2.false, c.before.before.before.before.before.before.before.if1.false, c.before.before.before.before.before.before.before.before.ends-arguments.ensures, c.before.before.before.before.before.before.before.before.before.kind_at.ensures) depth 14)
+    (λ c. search (grammar, c.args_end.ensures, c.before.match.keys2, c.before.before.before.before.expr_bp.ensures, c.before.before.before.before.before.before.if2.false, c.before.before.before.before.before.before.before.if1.false, c.before.before.before.before.before.before.before.before.ends_arguments.ensures, c.before.before.before.before.before.before.before.before.before.kind_at.ensures) depth 14)
     (λ c κs. search rules)
     (λ c. search rules)
     (λ c. look_is _ _ _ _
     (run_bound _ _ _ _ c.before.before.before.before.before.before.before.before.before.before.before.before.before.before.kind_at.ensures
-    (run_false _ _ _ _ _ _ c.before.before.before.before.before.before.before.before.before.before.before.before.before.ends-arguments.ensures c.before.before.before.before.before.before.before.before.before.before.before.before.if1.false
+    (run_false _ _ _ _ _ _ c.before.before.before.before.before.before.before.before.before.before.before.before.before.ends_arguments.ensures c.before.before.before.before.before.before.before.before.before.before.before.before.if1.false
     (run_ne _ _ _ _ _ _ _ c.before.before.before.before.before.before.before.before.before.before.before.if2.false
-    (then_fine _ _ _ _ _ c.before.before.before.before.before.before.before.before.before.expr-bp.ensures (reading_expr c.before.before.before.before.before.r.given.1) c.before.before.after-argument.ensures)))))
+    (then_fine _ _ _ _ _ c.before.before.before.before.before.before.before.before.before.expr_bp.ensures (reading_expr c.before.before.before.before.before.r.given.1) c.before.before.after_argument.ensures)))))

@@ -22,4 +22,4 @@ atom-expr-met t =
     (λ c. search (grammar, c.reading-of2.ensures, c.before.before.before.paren.ensures, c.before.before.before.before.before.if2.true, c.before.before.before.before.before.before.if1.false, c.before.before.before.before.before.before.before.kind_at.ensures) depth 14)
     (λ c κs. search rules)
     (λ c. search rules)
-    (λ c. search (grammar, c.before.before.plain-atom.ensures, c.before.before.before.before.if2.false, c.before.before.before.before.before.if1.false, c.before.before.before.before.before.before.kind_at.ensures) depth 14)
+    (λ c. search (grammar, c.before.before.plain_atom.ensures, c.before.before.before.before.if2.false, c.before.before.before.before.before.if1.false, c.before.before.before.before.before.before.kind_at.ensures) depth 14)

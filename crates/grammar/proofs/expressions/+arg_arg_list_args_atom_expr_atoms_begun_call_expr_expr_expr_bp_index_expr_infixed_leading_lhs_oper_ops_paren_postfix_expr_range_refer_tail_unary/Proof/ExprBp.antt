@@ -21,6 +21,6 @@ expr-bp-met t =
     (λ c κs. search rules)
     (λ c. search rules)
     (λ c. search rules)
-    (λ c. search (grammar, c.before.before.no-expression.ensures, c.before.before.before.before.if2.false, c.before.before.before.before.before.is-first.ensures, c.before.before.before.before.before.before.kind_at.ensures, c.before.before.before.before.before.before.before.before.before.s1.given.1, c.before.before.before.before.before.before.before.before.before.before.before.before.before.start.ensures, c.before.before.before.before.before.before.before.before.before.before.before.before.before.before.before.if1.false) depth 14)
+    (λ c. search (grammar, c.before.before.no_expression.ensures, c.before.before.before.before.if2.false, c.before.before.before.before.before.is_first.ensures, c.before.before.before.before.before.before.kind_at.ensures, c.before.before.before.before.before.before.before.before.before.s1.given.1, c.before.before.before.before.before.before.before.before.before.before.before.before.before.start.ensures, c.before.before.before.before.before.before.before.before.before.before.before.before.before.before.before.if1.false) depth 14)
     (λ c. search rules)
     (λ c. search grammar depth 10)

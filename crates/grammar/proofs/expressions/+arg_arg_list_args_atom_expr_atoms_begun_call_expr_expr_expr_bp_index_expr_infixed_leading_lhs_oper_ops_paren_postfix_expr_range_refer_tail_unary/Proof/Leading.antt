@@ -29,14 +29,14 @@ leading-met t =
     (λ c. search rules)
     (λ c. then_fine _ _ _ _ _ c.before.before.before.before.before.before.before.before.before.before.before.before.before.before.before.before.before.before.before.before.begin.ensures (opened_open c.before.before.before.before.before.before.before.before.before.before.before.before.before.before.before.before.s1.given.1)
     (look_is _ _ _ _
-    (run_held _ _ _ _ _ _ c.before.before.before.before.before.before.before.before.before.before.before.before.operand-follows.ensures c.before.before.before.before.before.before.before.before.before.before.before.if1.false (search (grammar, c.before.before.complete2.ensures, c.before.before.before.before.before.s2.given.1, c.before.before.before.before.before.before.before.before.before.expr-bp.ensures) depth 10))))
+    (run_held _ _ _ _ _ _ c.before.before.before.before.before.before.before.before.before.before.before.before.operand_follows.ensures c.before.before.before.before.before.before.before.before.before.before.before.if1.false (search (grammar, c.before.before.complete2.ensures, c.before.before.before.before.before.s2.given.1, c.before.before.before.before.before.before.before.before.before.expr_bp.ensures) depth 10))))
     (λ c. search rules)
     (λ c. then_fine _ _ _ _ _ c.before.before.before.before.before.before.before.before.before.before.before.before.before.before.before.before.before.before.before.before.begin.ensures (opened_open c.before.before.before.before.before.before.before.before.before.before.before.before.before.before.before.before.s1.given.1)
     (look_is _ _ _ _
-    (run_held _ _ _ _ _ _ c.before.before.before.before.before.before.before.before.before.before.before.before.operand-follows.ensures c.before.before.before.before.before.before.before.before.before.before.before.if1.false (search (grammar, c.before.before.complete3.ensures, c.before.before.before.before.before.s22.given.1, c.before.before.before.before.before.before.before.before.before.expr-bp.ensures) depth 10))))
+    (run_held _ _ _ _ _ _ c.before.before.before.before.before.before.before.before.before.before.before.before.operand_follows.ensures c.before.before.before.before.before.before.before.before.before.before.before.if1.false (search (grammar, c.before.before.complete3.ensures, c.before.before.before.before.before.s22.given.1, c.before.before.before.before.before.before.before.before.before.expr_bp.ensures) depth 10))))
     (λ c. search rules)
     (λ c. then_fine _ _ _ _ _ c.before.before.before.before.before.before.before.before.before.before.before.before.before.before.before.before.begin.ensures (opened_open c.before.before.before.before.before.before.before.before.before.before.before.before.s1.given.1)
     (look_is _ _ _ _
-    (run_held _ _ _ _ _ _ c.before.before.before.before.before.before.before.before.operand-follows.ensures c.before.before.before.before.before.before.before.if1.false (search (grammar, c.before.r.given.1, c.before.before.before.before.before.expr-bp.ensures) depth 10))))
+    (run_held _ _ _ _ _ _ c.before.before.before.before.before.before.before.before.operand_follows.ensures c.before.before.before.before.before.before.before.if1.false (search (grammar, c.before.r.given.1, c.before.before.before.before.before.expr_bp.ensures) depth 10))))
     (λ c. search rules)
     (λ c. search grammar depth 10)

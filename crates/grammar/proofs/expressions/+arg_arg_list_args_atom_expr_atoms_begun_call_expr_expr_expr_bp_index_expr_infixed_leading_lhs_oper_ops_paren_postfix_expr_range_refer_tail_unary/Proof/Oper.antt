@@ -25,4 +25,4 @@ oper-met t =
     (λ c κs. search rules)
     (λ c κs. search rules)
     (λ c. search rules)
-    (λ c. search (grammar, c.turn-of2.ensures, c.before.before.before.infixed.ensures, c.before.before.before.before.before.if3.false, c.before.before.before.before.before.before.is-range.ensures, c.before.before.before.before.before.before.before.if2.false, c.before.before.before.before.before.before.before.before.before.if1.false, c.before.before.before.before.before.before.before.before.before.before.before.current-op.ensures) depth 14)
+    (λ c. search (grammar, c.turn-of2.ensures, c.before.before.before.infixed.ensures, c.before.before.before.before.before.if3.false, c.before.before.before.before.before.before.is_range.ensures, c.before.before.before.before.before.before.before.if2.false, c.before.before.before.before.before.before.before.before.before.if1.false, c.before.before.before.before.before.before.before.before.before.before.before.current_op.ensures) depth 14)

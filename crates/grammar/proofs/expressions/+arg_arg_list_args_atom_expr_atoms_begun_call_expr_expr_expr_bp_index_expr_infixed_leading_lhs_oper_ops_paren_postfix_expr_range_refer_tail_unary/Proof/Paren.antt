@@ -29,16 +29,16 @@ paren-met t =
     (λ c. then_fine _ _ _ _ _ c.before.before.before.before.before.before.before.before.before.before.before.before.before.before.before.before.before.before.before.begin.ensures (opened_open c.before.before.before.before.before.before.before.before.before.before.before.before.before.before.before.s1.given.1)
     (look_is _ _ _ _
     (run_bound _ _ _ _ c.before.before.before.before.before.before.before.before.before.before.before.before.kind_at.ensures
-    (run_ne _ _ _ _ _ _ _ c.before.before.before.before.before.before.before.before.before.before.before.if1.false (then_fine _ _ _ _ _ c.before.before.before.before.before.before.before.before.before.expr-bp.ensures (reading_expr c.before.before.before.before.before.s2.given.1) c.before.before.paren-tail.ensures)))))
+    (run_ne _ _ _ _ _ _ _ c.before.before.before.before.before.before.before.before.before.before.before.if1.false (then_fine _ _ _ _ _ c.before.before.before.before.before.before.before.before.before.expr_bp.ensures (reading_expr c.before.before.before.before.before.s2.given.1) c.before.before.paren_tail.ensures)))))
     (λ c. search rules)
     (λ c. then_fine _ _ _ _ _ c.before.before.before.before.before.before.before.before.before.before.before.before.before.before.before.before.before.before.before.begin.ensures (opened_open c.before.before.before.before.before.before.before.before.before.before.before.before.before.before.before.s1.given.1)
     (look_is _ _ _ _
     (run_bound _ _ _ _ c.before.before.before.before.before.before.before.before.before.before.before.before.kind_at.ensures
-    (run_ne _ _ _ _ _ _ _ c.before.before.before.before.before.before.before.before.before.before.before.if1.false (then_fine _ _ _ _ _ c.before.before.before.before.before.before.before.before.before.expr-bp.ensures (reading_noexpr c.before.before.before.before.before.s22.given.1) c.before.before.closing.ensures)))))
+    (run_ne _ _ _ _ _ _ _ c.before.before.before.before.before.before.before.before.before.before.before.if1.false (then_fine _ _ _ _ _ c.before.before.before.before.before.before.before.before.before.expr_bp.ensures (reading_noexpr c.before.before.before.before.before.s22.given.1) c.before.before.closing.ensures)))))
     (λ c. search rules)
     (λ c. then_fine _ _ _ _ _ c.before.before.before.before.before.before.before.before.before.before.before.before.before.before.before.begin.ensures (opened_open c.before.before.before.before.before.before.before.before.before.before.before.s1.given.1)
     (look_is _ _ _ _
     (run_bound _ _ _ _ c.before.before.before.before.before.before.before.before.kind_at.ensures
-    (run_ne _ _ _ _ _ _ _ c.before.before.before.before.before.before.before.if1.false (then_bad _ _ _ _ _ c.before.before.before.before.before.expr-bp.ensures (reading_refused c.before.r.given.1) (search grammar depth 10))))))
+    (run_ne _ _ _ _ _ _ _ c.before.before.before.before.before.before.before.if1.false (then_bad _ _ _ _ _ c.before.before.before.before.before.expr_bp.ensures (reading_refused c.before.r.given.1) (search grammar depth 10))))))
     (λ c. search rules)
     (λ c. search grammar depth 10)

@@ -21,7 +21,7 @@ range-met t =
     (λ c. search rules)
     (λ c. then_fine _ _ _ _ _ c.before.before.before.before.before.before.before.before.before.before.before.before.before.before.lead.ensures (opened_open c.before.before.before.before.before.before.before.before.before.before.s1.given.1)
     (look_is _ _ _ _
-    (run_failed _ _ _ _ _ _ c.before.before.before.before.before.before.operand-follows.ensures c.before.before.before.before.before.if1.true (search (grammar, c.last_of.ensures, c.before.before.before.complete.ensures) depth 10))))
+    (run_failed _ _ _ _ _ _ c.before.before.before.before.before.before.operand_follows.ensures c.before.before.before.before.before.if1.true (search (grammar, c.last_of.ensures, c.before.before.before.complete.ensures) depth 10))))
     (λ c κs. search rules)
     (λ c κs. search rules)
     (λ c. search rules)
@@ -35,17 +35,17 @@ range-met t =
     (λ c. search rules)
     (λ c. then_fine _ _ _ _ _ c.before.before.before.before.before.before.before.before.before.before.before.before.before.before.before.before.before.before.before.before.before.before.lead.ensures (opened_open c.before.before.before.before.before.before.before.before.before.before.before.before.before.before.before.before.before.before.s1.given.1)
     (look_is _ _ _ _
-    (run_held _ _ _ _ _ _ c.before.before.before.before.before.before.before.before.before.before.before.before.before.before.operand-follows.ensures c.before.before.before.before.before.before.before.before.before.before.before.before.before.if1.false
-    (run_bound _ _ _ _ c.before.before.before.before.before.before.before.before.before.before.before.before.right_of.ensures (search (grammar, c.turn-of.ensures, c.before.before.before.complete2.ensures, c.before.before.before.before.before.before.s2.given.1, c.before.before.before.before.before.before.before.before.before.before.expr-bp.ensures) depth 10)))))
+    (run_held _ _ _ _ _ _ c.before.before.before.before.before.before.before.before.before.before.before.before.before.before.operand_follows.ensures c.before.before.before.before.before.before.before.before.before.before.before.before.before.if1.false
+    (run_bound _ _ _ _ c.before.before.before.before.before.before.before.before.before.before.before.before.right_of.ensures (search (grammar, c.turn_of.ensures, c.before.before.before.complete2.ensures, c.before.before.before.before.before.before.s2.given.1, c.before.before.before.before.before.before.before.before.before.before.expr_bp.ensures) depth 10)))))
     (λ c. search rules)
     (λ c. then_fine _ _ _ _ _ c.before.before.before.before.before.before.before.before.before.before.before.before.before.before.before.before.before.before.before.before.before.before.lead.ensures (opened_open c.before.before.before.before.before.before.before.before.before.before.before.before.before.before.before.before.before.before.s1.given.1)
     (look_is _ _ _ _
-    (run_held _ _ _ _ _ _ c.before.before.before.before.before.before.before.before.before.before.before.before.before.before.operand-follows.ensures c.before.before.before.before.before.before.before.before.before.before.before.before.before.if1.false
-    (run_bound _ _ _ _ c.before.before.before.before.before.before.before.before.before.before.before.before.right_of.ensures (search (grammar, c.turn-of2.ensures, c.before.before.before.complete3.ensures, c.before.before.before.before.before.before.s22.given.1, c.before.before.before.before.before.before.before.before.before.before.expr-bp.ensures) depth 10)))))
+    (run_held _ _ _ _ _ _ c.before.before.before.before.before.before.before.before.before.before.before.before.before.before.operand_follows.ensures c.before.before.before.before.before.before.before.before.before.before.before.before.before.if1.false
+    (run_bound _ _ _ _ c.before.before.before.before.before.before.before.before.before.before.before.before.right_of.ensures (search (grammar, c.turn-of2.ensures, c.before.before.before.complete3.ensures, c.before.before.before.before.before.before.s22.given.1, c.before.before.before.before.before.before.before.before.before.before.expr_bp.ensures) depth 10)))))
     (λ c. search rules)
     (λ c. then_fine _ _ _ _ _ c.before.before.before.before.before.before.before.before.before.before.before.before.before.before.before.before.before.lead.ensures (opened_open c.before.before.before.before.before.before.before.before.before.before.before.before.before.s1.given.1)
     (look_is _ _ _ _
-    (run_held _ _ _ _ _ _ c.before.before.before.before.before.before.before.before.before.operand-follows.ensures c.before.before.before.before.before.before.before.before.if1.false
-    (run_bound _ _ _ _ c.before.before.before.before.before.before.before.right_of.ensures (search (grammar, c.before.r.given.1, c.before.before.before.before.before.expr-bp.ensures) depth 10)))))
+    (run_held _ _ _ _ _ _ c.before.before.before.before.before.before.before.before.before.operand_follows.ensures c.before.before.before.before.before.before.before.before.if1.false
+    (run_bound _ _ _ _ c.before.before.before.before.before.before.before.right_of.ensures (search (grammar, c.before.r.given.1, c.before.before.before.before.before.expr_bp.ensures) depth 10)))))
     (λ c. search rules)
     (λ c. search grammar depth 10)
