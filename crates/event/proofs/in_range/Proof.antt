@@ -22,4 +22,4 @@ module _ (n : ℕ) (s : State) (ev : List ℕ) {room : ℕ} (p : room ≡ capaci
   within h = rw (← p, le-leb s.count room h)
 
 pub in_range_spec : {M : Type 1} → statement M
-in_range_spec = tie.close (tie.spec (λ c κs. search rules) (λ c. out_of _ _ _ c.before.capacity.ensures.0 c.if1.true) (λ c. within _ _ _ c.before.capacity.ensures.0 c.if1.false))
+in_range_spec = tie.close (tie.spec (λ c κs. search rules) (λ c. out_of _ _ _ c.before.capacity-room.ensures.0 c.if-room-count.true) (λ c. within _ _ _ c.before.capacity-room.ensures.0 c.if-room-count.false))

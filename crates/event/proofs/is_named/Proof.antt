@@ -7,4 +7,4 @@ use Rattle.event.proofs.is_named.Tie as tie
 
 pub is_named_spec : {M : Type 1} → statement M
 unfolding is_named
-is_named_spec = tie.close (tie.spec (λ c κs. search rules) (λ c κs. search rules) (λ c. search rank_test) (λ c. no_start _ _ c.before.tag_of.ensures c.if1.false))
+is_named_spec = tie.close (tie.spec (λ c κs. search rules) (λ c κs. search rules) (λ c. search rank_test) (λ c. no_start _ _ c.before.tag_of.ensures c.if-tag_of-eq-START.false))

@@ -11,7 +11,7 @@ unfolding leaves_of whether
 leaves_of_spec =
     tie.close
     (tie.spec
-    (λ c. rw c.match.keys1 refl)
-    (λ c. rw c.match.keys2 refl)
-    (λ c. rw c.match.keys3 refl)
+    (λ c. rw c.in-196608.is refl)
+    (λ c. rw c.in-262144.is refl)
+    (λ c. rw c.in-262145.is refl)
     (λ c. search ne_eqb))

@@ -16,10 +16,10 @@ decode_first_spec =
     (tie.spec
     (λ c κs. search rules)
     (λ c. search rules)
-    (λ c. omega (arith, section_fits _ _ _ c.before.before.before.before.section_at.ensures c.before.before.kinds.given.1))
+    (λ c. omega (arith, section_fits _ _ _ c.before.before.section_at.ensures c.before.in-Payload.is))
     (λ c κs. search rules)
     (λ c. search rules)
-    (λ c. omega (arith, section_fits _ _ _ c.before.before.before.before.section-at2.ensures c.before.before.joints.given.1))
+    (λ c. omega (arith, section_fits _ _ _ c.before.before.section_at-in-Payload.ensures c.before.in-Payload-section_at.is))
     (λ c. search rules)
     (λ c. search rules)
     (λ c. search steps depth 10)

@@ -11,11 +11,11 @@ use borrow.Author.Rules.{rules}
 use Rattle.stored.proofs.part.Statement.{statement}
 use Rattle.stored.proofs.part.Tie as tie
 
-returns : tie.Need-returns
+returns : tie.Need-returns-then-len-bytes
 unfolding part_of pick
 returns c =
     let a = c.before.before.before.args in
-    simp (le-leb _ _ c.before.before.if1.true, le-leb _ _ c.before.if2.true)
+    simp (le-leb _ _ c.before.before.if-at-bytes.true, le-leb _ _ c.before.if-len-bytes.true)
     (ap (λ (k : ℕ). take k (drop a.span.at a.bytes.now)) (add-sub_cancel_left a.span.at a.span.len))
 
 pub part_spec : {M : Type 1} → statement M
@@ -31,5 +31,5 @@ part_spec =
     (λ c. search rules)
     (λ c. search rules)
     returns
-    (λ c. simp (le-leb _ _ c.before.before.if1.true, lt-leb _ _ c.before.if2.false))
-    (λ c. simp (lt-leb _ _ c.before.if1.false)))
+    (λ c. simp (le-leb _ _ c.before.if-at-bytes.true, lt-leb _ _ c.if-len-bytes.false))
+    (λ c. simp (lt-leb _ _ c.if-at-bytes.false)))

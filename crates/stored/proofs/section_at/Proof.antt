@@ -16,9 +16,9 @@ section_at_spec =
     (tie.spec
     (λ c κs. search rules)
     (λ c. search rules)
-    (λ c. omega (arith, head_fits _ _ _ c.before.before.before.head_at.ensures c.before.len.given.1))
-    (λ c. omega (arith, head_fits _ _ _ c.before.before.before.head_at.ensures c.before.len.given.1))
-    (λ c. omega (arith, head_fits _ _ _ c.before.before.before.before.head_at.ensures c.before.before.len.given.1))
+    (λ c. omega (arith, head_fits _ _ _ c.before.head_at.ensures c.in-Length.is))
+    (λ c. omega (arith, head_fits _ _ _ c.before.head_at.ensures c.in-Length.is))
+    (λ c. omega (arith, head_fits _ _ _ c.before.before.head_at.ensures c.before.in-Length.is))
     (λ c. search rules)
     (λ c. search steps depth 10)
     (λ c. search steps depth 10)

@@ -11,6 +11,6 @@ unfolding is_range whether
 is_range_spec =
     tie.close
     (tie.spec
-    (λ c. rw c.match.keys1 refl)
-    (λ c. rw c.match.keys2 refl)
+    (λ c. rw c.in-44.is refl)
+    (λ c. rw c.in-61.is refl)
     (λ c. search ne_eqb))

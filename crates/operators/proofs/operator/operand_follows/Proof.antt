@@ -15,10 +15,10 @@ use Rattle.operators.proofs.token_set.is_first.Reads as is-first-reads
 use Rattle.input.proofs.kind_at.Reads as kind-at-reads
 
 -- src/operator.rt:196:39
-add-kind-at : tie.Need-overflow-add-kind-at
+add-kind-at : tie.Need-overflow_add-at
 add-kind-at c =
     let h : c.before.before.before.before.before.before.args.at < length c.before.before.before.before.before.before.args.kinds.now =
-    kind_inside (lent c.before.before.before.before.before.before.args.kinds.now c.before.before.before.before.before.before.args.joints.now) _ (λ q. omega (arith, c.before.before.before.kind_at.ensures)) in
+    kind_inside (lent c.before.before.before.before.before.before.args.kinds.now c.before.before.before.before.before.before.args.joints.now) _ (λ q. omega (arith, c.before.before.before.kind_at-kind.ensures)) in
     search rules
 
 pub operand_follows_spec : {M : Type 1} → statement M

@@ -10,4 +10,4 @@ pub right_of_spec : {M : Type 1} → statement M
 unfolding right_of on_side
 right_of_spec =
     tie.close
-    (tie.spec (λ c. search rules) (λ c. search rules) (λ c. search rules) (λ c. search rules) (λ c. search rules) (λ c. rw c.before.enum_told.given.1) (λ c. rw c.before.enum-told2.given.1))
+    (tie.spec (λ c. search rules) (λ c. search rules) (λ c. search rules) (λ c. search rules) (λ c. search rules) (λ c. rw c.before.in-Left.is) (λ c. rw c.before.in-Right.is))

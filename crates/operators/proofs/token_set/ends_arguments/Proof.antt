@@ -11,6 +11,6 @@ unfolding ends_arguments whether
 ends_arguments_spec =
     tie.close
     (tie.spec
-    (λ c. rw c.match.keys1 refl)
-    (λ c. rw c.match.keys2 refl)
+    (λ c. rw c.in-11.is refl)
+    (λ c. rw c.in-0.is refl)
     (λ c. search ne_eqb))

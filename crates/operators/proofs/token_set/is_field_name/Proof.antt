@@ -11,6 +11,6 @@ unfolding is_field_name whether
 is_field_name_spec =
     tie.close
     (tie.spec
-    (λ c. rw c.match.keys1 refl)
-    (λ c. rw c.match.keys2 refl)
+    (λ c. rw c.in-1.is refl)
+    (λ c. rw c.in-2.is refl)
     (λ c. search ne_eqb))

@@ -11,7 +11,7 @@ unfolding is_prefix whether
 is_prefix_spec =
     tie.close
     (tie.spec
-    (λ c. rw c.match.keys1 refl)
-    (λ c. rw c.match.keys2 refl)
-    (λ c. rw c.match.keys3 refl)
+    (λ c. rw c.in-21.is refl)
+    (λ c. rw c.in-25.is refl)
+    (λ c. rw c.in-20.is refl)
     (λ c. search ne_eqb))

@@ -11,8 +11,8 @@ unfolding outside_atom whether
 outside_atom_spec =
     tie.close
     (tie.spec
-    (λ c. rw c.match.keys1 refl)
-    (λ c. rw c.match.keys2 refl)
-    (λ c. rw c.match.keys3 refl)
-    (λ c. rw c.match.keys4 refl)
+    (λ c. rw c.in-18.is refl)
+    (λ c. rw c.in-27.is refl)
+    (λ c. rw c.in-15.is refl)
+    (λ c. rw c.in-12.is refl)
     (λ c. search ne_eqb))

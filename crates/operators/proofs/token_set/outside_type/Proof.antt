@@ -11,11 +11,11 @@ unfolding outside_type whether
 outside_type_spec =
     tie.close
     (tie.spec
-    (λ c. rw c.match.keys1 refl)
-    (λ c. rw c.match.keys2 refl)
-    (λ c. rw c.match.keys3 refl)
-    (λ c. rw c.match.keys4 refl)
-    (λ c. rw c.match.keys5 refl)
-    (λ c. rw c.match.keys6 refl)
-    (λ c. rw c.match.keys7 refl)
+    (λ c. rw c.in-17.is refl)
+    (λ c. rw c.in-10.is refl)
+    (λ c. rw c.in-12.is refl)
+    (λ c. rw c.in-21.is refl)
+    (λ c. rw c.in-25.is refl)
+    (λ c. rw c.in-27.is refl)
+    (λ c. rw c.in-15.is refl)
     (λ c. search ne_eqb))
