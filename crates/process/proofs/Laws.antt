@@ -25,7 +25,7 @@ module _ {A : Type 0} (f g : Unit {0} → A) {out : A} where
   pub whether_isnt : (a b : ℕ) {r : ℕ} → r ≡ a → (r ≡ b → ⊥) → out ≡ g tt → out ≡ whether (eqb a b) f g
   whether_isnt a b p q h = whether_ne f g a b (λ e. q (p ∙ e)) h
 
-pub ruleset rules = (tests, whether_is, whether_isnt)
+pub ruleset of_pass = (tests, whether_is, whether_isnt)
 
 -- soundness of an entry x
 module _ (ev : List ℕ) (n i : ℕ) {x : ℕ} (p : x ≡ get_or ev i 0) where

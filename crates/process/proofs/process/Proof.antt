@@ -15,7 +15,7 @@ process_spec =
     (λ c κs. search rules)
     (λ c. search rules)
     (λ c. search (too_many, not-false, rules))
-    (λ c κs. c.before.before.before.before.before.before.sound.ensures.1 (not-false _ c.before.before.before.before.before.if1.false))
+    (λ c κs. c.before.before.before.before.before.sound.ensures.1 (not-false _ c.before.before.before.before.if-not-sound.false-raw))
     (λ c κs. search rules)
     (λ c κs. search rules)
     (λ c. search rules)

@@ -1,6 +1,6 @@
 -- `put_enter` is `entered_of`. Assumes nothing.
 use borrow.Author.Rules.{rules}
-use Rattle.process.proofs.Laws.{entered, rules}
+use Rattle.process.proofs.Laws.{entered, of_pass}
 use Rattle.process.proofs.put_enter.Statement.{statement}
 use Rattle.process.proofs.put_enter.Tie as tie
 
@@ -15,4 +15,4 @@ put_enter_spec =
     (λ c κs. search rules)
     (λ c. search rules)
     (λ c. search (entered, rules))
-    (λ c. search (rules, rules) depth 8))
+    (λ c. search (of_pass, rules) depth 8))

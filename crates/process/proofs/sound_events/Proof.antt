@@ -5,47 +5,47 @@ use native.Mathlib.Omega.{arith}
 use Prim.Native.Nat.{◌-◌}
 use Rattle.process.specs.Process.{sound_turn, sound_events}
 use Rattle.base.proofs.Laws.{Rest, rest_start, rest_done, rest_again}
-use Rattle.process.proofs.Laws.{rules}
+use Rattle.process.proofs.Laws.{of_pass}
 use Rattle.process.proofs.sound_events.Statement.{statement}
 use Rattle.process.proofs.sound_events.Tie as tie
 
-abbrev invariant-loop : tie.invariant-loop
-invariant-loop events n i₀ i = Rest (sound_turn events n) false (λ z. n - z) (sound_events events n) i
+abbrev invariant-loop-i : tie.invariant-loop-i
+invariant-loop-i events n i₀ i = Rest (sound_turn events n) false (λ z. n - z) (sound_events events n) i
 
-abbrev decreases-loop : tie.decreases-loop
-decreases-loop events n i₀ i = n - i
+abbrev decreases-loop-i : tie.decreases-loop-i
+decreases-loop-i events n i₀ i = n - i
 
-loop-holds : tie.Need-loop-init invariant-loop decreases-loop
+loop-holds : tie.Need-loop-i-init invariant-loop-i decreases-loop-i
 unfolding sound_events
 loop-holds c = rest_start _ _ _ _ _ (omega arith)
 
-sound-at-requires : tie.Need-sound-at-requires invariant-loop decreases-loop
+sound-at-requires : tie.Need-sound_at-requires invariant-loop-i decreases-loop-i
 sound-at-requires c κs = search rules
 
-add-i : tie.Need-overflow-add-i invariant-loop decreases-loop
+add-i : tie.Need-overflow_add-i invariant-loop-i decreases-loop-i
 add-i c = search rules
 
-loop-less : tie.Need-loop-smaller invariant-loop decreases-loop
+loop-less : tie.Need-loop-i-smaller invariant-loop-i decreases-loop-i
 loop-less c = search rules
 
-loop-again : tie.Need-loop-preserved invariant-loop decreases-loop
+loop-again : tie.Need-loop-i-preserved invariant-loop-i decreases-loop-i
 unfolding sound_turn
-loop-again c = rest_again _ _ _ _ _ _ c.before.before.before.loop.invariant (search rules depth 10) (omega arith)
+loop-again c = rest_again _ _ _ _ _ _ c.before.before.before.loop-i.invariant (search of_pass depth 10) (omega arith)
 
-returns : tie.Need-returns invariant-loop decreases-loop
+returns : tie.Need-returns-else-sound_at invariant-loop-i decreases-loop-i
 unfolding sound_turn
-returns c = search (rules, rest_done) depth 10
+returns c = search (of_pass, rest_done) depth 10
 
-returns-2 : tie.Need-returns-2 invariant-loop decreases-loop
+returns-2 : tie.Need-returns invariant-loop-i decreases-loop-i
 unfolding sound_turn
-returns-2 c = search (rules, rest_done) depth 10
+returns-2 c = search (of_pass, rest_done) depth 10
 
 pub sound_events_spec : {M : Type 1} → statement M
 sound_events_spec =
     tie.close
     (tie.spec
-    invariant-loop
-    decreases-loop
+    invariant-loop-i
+    decreases-loop-i
     loop-holds
     sound-at-requires
     add-i

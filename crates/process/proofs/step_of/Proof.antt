@@ -1,7 +1,7 @@
 -- `step_of` is `step_of`, one law for each tag; the parts of an entry are small, so that each sum fits. Assumes nothing.
 use borrow.Author.Rules.{rules}
 use Rattle.process.specs.Process.{step_of}
-use Rattle.process.proofs.Laws.{step_token, step_split, step_error, rules}
+use Rattle.process.proofs.Laws.{step_token, step_split, step_error, of_pass}
 use Rattle.process.proofs.step_of.Statement.{statement}
 use Rattle.process.proofs.step_of.Tie as tie
 
@@ -27,4 +27,4 @@ step_of_spec =
     (λ c. search rules)
     (λ c. search rules)
     (λ c. search (step_error, rules))
-    (λ c. search (rules, rules) depth 8))
+    (λ c. search (of_pass, rules) depth 8))

@@ -23,4 +23,4 @@ bump_any_spec =
     (λ c. search rules)
     (λ c. search room depth 6)
     (λ c. search rules)
-    (λ c. whether_lt _ _ _ _ c.before.before.before.before.before.before.before.before.before.if1.false (whether_held _ _ _ c.before.before.before.before.before.before.before.room_for.ensures.0 c.before.before.before.before.before.before.if2.false (left _ _ (stored c.before.before.before.before.before.before.before.before.before.before.before.before.before.args.events.now _ _ c.before.before.put.ensures refl (taking _ 1 c.before.before.before.token_entry.ensures c.before.before.before.before.before.kind_at.ensures))))))
+    (λ c. whether_lt _ _ _ _ c.before.before.before.before.before.before.before.before.if-kinds-at.false (whether_held _ _ _ c.before.before.before.before.before.before.before.room_for.ensures.0 c.before.before.before.before.before.before.if-not-room_for.false-raw (left _ _ (stored c.before.before.before.before.before.before.before.before.before.before.before.before.args.events.now _ _ c.before.before.put.ensures refl (taking _ 1 c.before.before.before.token_entry.ensures c.before.before.before.before.before.kind_at-kind.ensures))))))

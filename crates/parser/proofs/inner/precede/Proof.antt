@@ -30,4 +30,4 @@ precede_spec =
     (λ c κs. search rules)
     (λ c. search room depth 6)
     (λ c. search rules)
-    (λ c. whether_held _ _ _ c.before.before.before.before.before.before.before.before.before.before.before.before.before.before.before.before.is_closed.ensures c.before.before.before.before.before.before.before.before.before.before.before.before.before.before.before.if1.false (whether_held _ _ _ c.before.before.before.before.before.before.before.before.before.before.before.before.before.is_parentless.ensures c.before.before.before.before.before.before.before.before.before.before.before.before.if2.false (whether_held _ _ _ c.before.before.before.before.before.before.before.before.before.before.room_for.ensures.0 c.before.before.before.before.before.before.before.before.before.if3.false (left _ _ (stored _ _ _ c.before.before.put.ensures c.before.before.before.before.before.before.before.lead_start.ensures c.before.before.before.preceding_entry.ensures))))))
+    (λ c. whether_held _ _ _ c.before.before.before.before.before.before.before.before.before.before.before.before.before.before.is_closed.ensures c.before.before.before.before.before.before.before.before.before.before.before.before.before.if-not-is_closed.false-raw (whether_held _ _ _ c.before.before.before.before.before.before.before.before.before.before.before.before.is_parentless.ensures c.before.before.before.before.before.before.before.before.before.before.before.if-not-is_parentless.false-raw (whether_held _ _ _ c.before.before.before.before.before.before.before.before.before.before.room_for.ensures.0 c.before.before.before.before.before.before.before.before.before.if-not-room_for.false-raw (left _ _ (stored _ _ _ c.before.before.put.ensures c.before.before.before.before.before.before.before.lead_start.ensures c.before.before.before.preceding_entry.ensures))))))
