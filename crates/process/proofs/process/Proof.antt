@@ -21,6 +21,4 @@ process_spec =
     (λ c. search rules)
     (λ c. search rules)
     (λ c.
-    let w = c.before.before.before.before.before.before.before.before.before in
-    let u = w.before.before.before in
-    passed _ _ _ u.before.before.before.before.sound.ensures.0 (not-false _ u.before.before.before.if1.false) u.before.count_steps.ensures u.if2.false w.write.ensures w.write.new.0 (search rules) c.before.before.before.clear.ensures c.fresh.ensures))
+    passed _ _ _ c.before.before.before.before.before.before.before.before.before.before.before.before.before.before.before.sound.ensures.0 (not-false _ c.before.before.before.before.before.before.before.before.before.before.before.before.before.before.if-not-sound.false-raw) c.before.before.before.before.before.before.before.before.before.before.before.before.before.count_steps.ensures c.before.before.before.before.before.before.before.before.before.before.before.before.if-steps-count_steps.false c.before.before.before.before.before.before.before.before.before.write-written.ensures c.before.before.before.before.before.before.before.before.before.write-written.new.events (search rules) c.before.before.before.clear.ensures c.fresh.ensures))

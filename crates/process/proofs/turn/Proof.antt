@@ -29,6 +29,6 @@ turn_spec =
     (λ c. search rules)
     (λ c.
     let s = c.before.before.before.before in
-    (turn_step _ _ _ _ _ _ (search rules) s.before.before.before.before.before.before.event_at.ensures s.before.before.before.before.before.tag_of.ensures s.before.before.before.before.if1.false s.before.before.before.steps_at.ensures.0 s.before.before.if2.true s.step_of_lem.ensures c.before.before.before.put_step.ensures c.is_split-split.ensures, omega arith))
+    (turn_step _ _ _ _ _ _ (search rules) s.before.before.before.before.before.before.event_at-x.ensures s.before.before.before.before.before.tag_of.ensures s.before.before.before.before.if-tag_of-eq-START.false s.before.before.before.steps_at.ensures.0 s.before.before.if-steps_at-eq1.true s.step_of.ensures c.before.before.before.put_step.ensures c.is_split-split.ensures, omega arith))
     (λ c. search rules)
     (λ c. (search (turn_none, rules), omega arith)))

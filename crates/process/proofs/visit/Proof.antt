@@ -18,4 +18,4 @@ visit_spec =
     (λ c.
     let v = c.before.before.before in
     let l = v.before.before.before.before.before.before in
-    visit_all l.before.before.before.before.args.events.now _ l.before.before.before.before.args.steps.now _ l.before.before.before.before.args.at _ _ l.before.names_of.ensures.0 l.less.ensures v.before.before.before.before.put_enter.ensures v.visited.ensures c.before.before.put.ensures))
+    visit_all l.before.before.before.before.args.events.now _ l.before.before.before.before.args.steps.now _ l.before.before.before.before.args.at _ _ l.before.names_of.ensures.0 l.less-below.ensures v.before.before.before.before.put_enter.ensures v.visited.ensures c.before.before.put.ensures))
