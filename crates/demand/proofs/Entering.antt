@@ -1,7 +1,7 @@
 -- The loops over a chain of forward parents: how many names it has, and what entering it leaves, its names written outermost first and its starts visited. Both are the chain of the events that are seen. Assumes nothing.
 use mathlib.Core.Path.{◌≡◌, refl, sym, ap, ◌∙◌}
 use mathlib.Core.Bool.{Bool, true, false, false≢true}
-use mathlib.Core.List.{List, [], ◌∷◌, ◌++◌, map, map_append, append-nil, append_assoc}
+use mathlib.Core.List.{List, [], ◌∷◌, ◌++◌, map, map-append, append-nil, append_assoc}
 use Prim.Native.Nat.{ℕ, zero, suc, ◌+◌, ◌-◌, ◌≤◌, ◌<◌}
 use native.Mathlib.Omega.{arith}
 use native.Mathlib.Nat.{add-zero}
@@ -155,7 +155,7 @@ abbrev codes : List ℕ → List ℕ
 codes l = map code_of (map enter l)
 
 codes_append : (l m : List ℕ) → codes (l ++ m) ≡ codes l ++ codes m
-codes_append l m = rw (map_append, map_append)
+codes_append l m = rw (map-append, map-append)
 
 codes_length : (l : List ℕ) → length (codes l) ≡ length l
 codes_length l = length-map (map enter l) code_of ∙ length-map l enter

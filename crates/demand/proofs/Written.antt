@@ -1,7 +1,7 @@
 -- The pass over the lent lists writes the steps of the events that are seen, first in the step list. Assumes nothing.
 use mathlib.Core.Path.{◌≡◌, refl, sym, subst, ◌∙◌}
 use mathlib.Core.Bool.{Bool, true, false, false≢true}
-use mathlib.Core.List.{List, [], ◌∷◌, ◌++◌, map, map_append}
+use mathlib.Core.List.{List, [], ◌∷◌, ◌++◌, map, map-append}
 use Prim.Native.Nat.{ℕ, zero, suc, ◌+◌, ◌≤◌, ◌<◌}
 use native.Mathlib.Omega.{arith}
 use native.Mathlib.Nat.{add-zero, zero-add}
@@ -38,7 +38,7 @@ Wrote m st ss = (m + length ss, sets st m (map code_of ss))
 wrote_on : (m : ℕ) (st : List ℕ) (xs ys : List Step) → ◌≡◌ {A = ℕ × List ℕ} (m + length xs + length ys, sets (sets st m (map code_of xs)) (m + length xs) (map code_of ys)) (m + length (xs ++ ys), sets st m (map code_of (xs ++ ys)))
 wrote_on m st xs ys =
     let e : m + length (xs ++ ys) ≡ m + length xs + length ys = omega (arith, length-append xs ys) in
-    rw (e, map_append, sets_append, length-map)
+    rw (e, map-append, sets_append, length-map)
 
 pass_out : (n i m : ℕ) (c : Bool) (ev st : List ℕ) → n ≤ i → done (m, st) ≡ process_turn n (i, m, c, ev, st)
 unfolding process_turn

@@ -1,6 +1,6 @@
 -- An error event among the events gives an error step: the pass gives each error event its step, and a walk over a chain of forward parents leaves it. Assumes nothing.
 use mathlib.Core.Path.{◌≡◌, ◌∙◌}
-use mathlib.Core.List.{List, [], ◌∷◌, ◌++◌, map, map_append}
+use mathlib.Core.List.{List, [], ◌∷◌, ◌++◌, map, map-append}
 use mathlib.Core.Bool.{Bool, false}
 use mathlib.Core.Logic.{◌⊎◌, inl, inr}
 use Prim.Native.Nat.{ℕ, zero, suc, ◌≤◌}
@@ -50,7 +50,7 @@ own_wrong : (c : Bool) (e : Event) (l : List Step) → Wrong e → NoErrors (map
 own_wrong c (error k) l w h = omega (arith, h.0)
 
 own_right : (c : Bool) (e : Event) (l : List Step) → NoErrors (map code_of (own c e ++ l)) → NoErrors (map code_of l)
-own_right c e l h = no_errors_right (map code_of (own c e)) (map code_of l) (rw map_append at h)
+own_right c e l h = no_errors_right (map code_of (own c e)) (map code_of l) (rw map-append at h)
 
 enters_right : (l : List ℕ) (m : List Step) → NoErrors (map code_of (map enter l ++ m)) → NoErrors (map code_of m)
 enters_right [] m h = h

@@ -1,6 +1,6 @@
 -- The steps of a tree's shape are `flat` of the tree, and every part of the shape that needs a root has one. Assumes nothing.
 use mathlib.Core.Path.{◌≡◌, refl, sym, ap, ◌∙◌}
-use mathlib.Core.List.{List, [], ◌∷◌, ◌++◌, map, append_assoc, append-nil, map_append}
+use mathlib.Core.List.{List, [], ◌∷◌, ◌++◌, map, append_assoc, append-nil, map-append}
 use Prim.Native.Nat.{ℕ, zero, suc, ◌+◌, ◌*◌}
 use Rattle.input.specs.SyntaxKind.{IDENT, AS_KW, MUT_KW, AWAIT_KW, L_PAREN, R_PAREN, L_BRACK, R_BRACK, COMMA, DOT, AMP, QUESTION, PATH_EXPR, PAREN_EXPR, REF_EXPR, PREFIX_EXPR, BIN_EXPR, RANGE_EXPR, CALL_EXPR, ARG_LIST, INDEX_EXPR, METHOD_CALL_EXPR, FIELD_EXPR, AWAIT_EXPR, TRY_EXPR, CAST_EXPR, PATH_TYPE, ENTER, TOKEN, LEAVE, FLOAT_SPLIT, ENDS_IN_DOT, WIDTH_STEP}
 use Rattle.demand.specs.Steps.{code_of}
@@ -33,9 +33,9 @@ numbers_are : (sh : Shape) → map code_of (steps sh) ≡ numbers sh
 unfolding steps numbers
 numbers_are nil = refl
 numbers_are (tok k w) = refl
-numbers_are (both a b) = simp (map_append, numbers_are a, numbers_are b)
-numbers_are (node k a) = simp (map_append, numbers_are a)
-numbers_are (led z k c a) = simp (map_append, numbers_are c, numbers_are a, ends_are z)
+numbers_are (both a b) = simp (map-append, numbers_are a, numbers_are b)
+numbers_are (node k a) = simp (map-append, numbers_are a)
+numbers_are (led z k c a) = simp (map-append, numbers_are c, numbers_are a, ends_are z)
 numbers_are (ext c) = numbers_are c
 
 outer_numbers : (t : Tree) (sh : Shape) → numbers (outer t sh) ≡ numbers sh
