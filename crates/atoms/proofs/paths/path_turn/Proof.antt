@@ -15,9 +15,9 @@ use Rattle.input.proofs.kind_at.Reads as kind-at-reads
 use Rattle.input.proofs.nth_at.Reads as nth-at-reads
 
 -- src/paths.rt:102:31
-add-kind-at : tie.Need-overflow-add-kind-at
+add-kind-at : tie.Need-overflow_add-at
 add-kind-at c =
-    let h : c.before.before.before.before.before.args.state.pos.0 + 2 ≤ length c.before.before.before.before.before.args.t1.now = colon_inside c.before.before.before.before.before.args.t1.now c.before.before.before.before.before.args.t2.now c.before.before.before.before.before.args.state.pos.0 c.before.nth_at.ensures c.if1.false in
+    let h : c.before.before.before.before.before.args.state.pos.0 + 2 ≤ length c.before.before.before.before.before.args.kinds.now = colon_inside c.before.before.before.before.before.args.kinds.now c.before.before.before.before.before.args.joints.now c.before.before.before.before.before.args.state.pos.0 c.before.nth_at.ensures c.if-not-nth_at.false-raw in
     search rules
 
 pub path_turn_spec : {M : Type 1} → statement M
