@@ -35,7 +35,7 @@ const RANGE_OPERAND: u16 = 2;
 const OPERAND: u16 = 255;
 
 // Reads an expression whose operators have at least strength b. e.g. 1 + 2 * 3
-#[cycle(arg_arg_list_args_atom_expr_atoms_begun_call_expr_expr_expr_bp_index_expr_infixed_leading_lhs_oper_ops_paren_postfix_expr_range_refer_tail_unary)]
+#[cycle(readers)]
 pub fn expr_bp(
     kinds: &&[u8],
     joints: &&[u8],
@@ -68,7 +68,7 @@ pub fn expr_bp(
 }
 
 // The left part and the operators that follow it.
-#[cycle(arg_arg_list_args_atom_expr_atoms_begun_call_expr_expr_expr_bp_index_expr_infixed_leading_lhs_oper_ops_paren_postfix_expr_range_refer_tail_unary)]
+#[cycle(readers)]
 fn expr(
     kinds: &&[u8],
     joints: &&[u8],
@@ -125,7 +125,7 @@ fn missing(kinds: &&[u8], joints: &&[u8], events: &mut [u64], r: Reading, m: Mar
 }
 
 // The left part, extended to the reading's marker.
-#[cycle(arg_arg_list_args_atom_expr_atoms_begun_call_expr_expr_expr_bp_index_expr_infixed_leading_lhs_oper_ops_paren_postfix_expr_range_refer_tail_unary)]
+#[cycle(readers)]
 fn begun(
     kinds: &&[u8],
     joints: &&[u8],
@@ -144,7 +144,7 @@ fn begun(
 }
 
 // The operators of at least strength b that follow an expression.
-#[cycle(arg_arg_list_args_atom_expr_atoms_begun_call_expr_expr_expr_bp_index_expr_infixed_leading_lhs_oper_ops_paren_postfix_expr_range_refer_tail_unary)]
+#[cycle(readers)]
 fn ops(
     kinds: &&[u8],
     joints: &&[u8],
@@ -171,7 +171,7 @@ fn ops(
 }
 
 // One operator, or the end.
-#[cycle(arg_arg_list_args_atom_expr_atoms_begun_call_expr_expr_expr_bp_index_expr_infixed_leading_lhs_oper_ops_paren_postfix_expr_range_refer_tail_unary)]
+#[cycle(readers)]
 fn oper(
     kinds: &&[u8],
     joints: &&[u8],
@@ -198,7 +198,7 @@ fn oper(
 }
 
 // e.g. a * b
-#[cycle(arg_arg_list_args_atom_expr_atoms_begun_call_expr_expr_expr_bp_index_expr_infixed_leading_lhs_oper_ops_paren_postfix_expr_range_refer_tail_unary)]
+#[cycle(readers)]
 fn infixed(
     kinds: &&[u8],
     joints: &&[u8],
@@ -224,7 +224,7 @@ fn infixed(
 }
 
 // e.g. 1..2, 1..
-#[cycle(arg_arg_list_args_atom_expr_atoms_begun_call_expr_expr_expr_bp_index_expr_infixed_leading_lhs_oper_ops_paren_postfix_expr_range_refer_tail_unary)]
+#[cycle(readers)]
 fn range(
     kinds: &&[u8],
     joints: &&[u8],
@@ -284,7 +284,7 @@ fn postfix_of(c: Closed) -> Postfix
 }
 
 // The left part: a prefix, a leading range, or an atom with its postfix forms.
-#[cycle(arg_arg_list_args_atom_expr_atoms_begun_call_expr_expr_expr_bp_index_expr_infixed_leading_lhs_oper_ops_paren_postfix_expr_range_refer_tail_unary)]
+#[cycle(readers)]
 fn lhs(kinds: &&[u8], joints: &&[u8], events: &mut [u64], state: State, inner: Depth) -> Reading
     ensures { (reading_reply result, events.new) ≡ run (lent kinds.now.now joints.now.now) (lhs (lent kinds.now.now joints.now.now) (expr_bp inner.0 (lent kinds.now.now joints.now.now))) state events.old }
 {
@@ -316,7 +316,7 @@ fn dots_at(kinds: &&[u8], joints: &&[u8], at: usize) -> u8
     0
 }
 
-#[cycle(arg_arg_list_args_atom_expr_atoms_begun_call_expr_expr_expr_bp_index_expr_infixed_leading_lhs_oper_ops_paren_postfix_expr_range_refer_tail_unary)]
+#[cycle(readers)]
 fn atoms(kinds: &&[u8], joints: &&[u8], events: &mut [u64], state: State, inner: Depth) -> Reading
     ensures { (reading_reply result, events.new) ≡ run (lent kinds.now.now joints.now.now) (atom_postfix (lent kinds.now.now joints.now.now) (expr_bp inner.0 (lent kinds.now.now joints.now.now))) state events.old }
 {
@@ -341,7 +341,7 @@ fn begin_ref(kinds: &&[u8], joints: &&[u8], events: &mut [u64], state: State) ->
 }
 
 // e.g. &1, &mut a
-#[cycle(arg_arg_list_args_atom_expr_atoms_begun_call_expr_expr_expr_bp_index_expr_infixed_leading_lhs_oper_ops_paren_postfix_expr_range_refer_tail_unary)]
+#[cycle(readers)]
 fn refer(kinds: &&[u8], joints: &&[u8], events: &mut [u64], state: State, inner: Depth) -> Closed
     ensures { (closed_reply result, events.new) ≡ run (lent kinds.now.now joints.now.now) (ref_expr (lent kinds.now.now joints.now.now) (expr_bp inner.0 (lent kinds.now.now joints.now.now))) state events.old }
 {
@@ -356,7 +356,7 @@ fn refer(kinds: &&[u8], joints: &&[u8], events: &mut [u64], state: State, inner:
 }
 
 // e.g. **&1, !!true, --1
-#[cycle(arg_arg_list_args_atom_expr_atoms_begun_call_expr_expr_expr_bp_index_expr_infixed_leading_lhs_oper_ops_paren_postfix_expr_range_refer_tail_unary)]
+#[cycle(readers)]
 fn unary(
     kinds: &&[u8],
     joints: &&[u8],
@@ -378,7 +378,7 @@ fn unary(
 }
 
 // e.g. .., ..=1
-#[cycle(arg_arg_list_args_atom_expr_atoms_begun_call_expr_expr_expr_bp_index_expr_infixed_leading_lhs_oper_ops_paren_postfix_expr_range_refer_tail_unary)]
+#[cycle(readers)]
 fn leading(
     kinds: &&[u8],
     joints: &&[u8],
@@ -406,7 +406,7 @@ fn leading(
 }
 
 // The postfix forms that follow an expression. e.g. a(1)[2].b?
-#[cycle(arg_arg_list_args_atom_expr_atoms_begun_call_expr_expr_expr_bp_index_expr_infixed_leading_lhs_oper_ops_paren_postfix_expr_range_refer_tail_unary)]
+#[cycle(readers)]
 fn postfix_expr(
     kinds: &&[u8],
     joints: &&[u8],
@@ -434,7 +434,7 @@ fn postfix_expr(
 }
 
 // One postfix form, or the end.
-#[cycle(arg_arg_list_args_atom_expr_atoms_begun_call_expr_expr_expr_bp_index_expr_infixed_leading_lhs_oper_ops_paren_postfix_expr_range_refer_tail_unary)]
+#[cycle(readers)]
 fn tail(
     kinds: &&[u8],
     joints: &&[u8],
@@ -533,7 +533,7 @@ fn is_dots(kinds: &&[u8], joints: &&[u8], at: usize) -> bool
 }
 
 // A call or a method call. e.g. f(1, 2,), x.foo(), x.0. call()
-#[cycle(arg_arg_list_args_atom_expr_atoms_begun_call_expr_expr_expr_bp_index_expr_infixed_leading_lhs_oper_ops_paren_postfix_expr_range_refer_tail_unary)]
+#[cycle(readers)]
 fn call_expr(
     kinds: &&[u8],
     joints: &&[u8],
@@ -574,7 +574,7 @@ fn call_head(
 }
 
 // e.g. x[1][2]
-#[cycle(arg_arg_list_args_atom_expr_atoms_begun_call_expr_expr_expr_bp_index_expr_infixed_leading_lhs_oper_ops_paren_postfix_expr_range_refer_tail_unary)]
+#[cycle(readers)]
 fn index_expr(
     kinds: &&[u8],
     joints: &&[u8],
@@ -785,7 +785,7 @@ fn try_expr(
 }
 
 // e.g. (1, 2,)
-#[cycle(arg_arg_list_args_atom_expr_atoms_begun_call_expr_expr_expr_bp_index_expr_infixed_leading_lhs_oper_ops_paren_postfix_expr_range_refer_tail_unary)]
+#[cycle(readers)]
 fn arg_list(kinds: &&[u8], joints: &&[u8], events: &mut [u64], state: State, inner: Depth) -> Closed
     ensures { (closed_reply result, events.new) ≡ run (lent kinds.now.now joints.now.now) (arg_list (lent kinds.now.now joints.now.now) (expr_bp inner.0 (lent kinds.now.now joints.now.now))) state events.old }
 {
@@ -807,7 +807,7 @@ fn arg_list(kinds: &&[u8], joints: &&[u8], events: &mut [u64], state: State, inn
     }
 }
 
-#[cycle(arg_arg_list_args_atom_expr_atoms_begun_call_expr_expr_expr_bp_index_expr_infixed_leading_lhs_oper_ops_paren_postfix_expr_range_refer_tail_unary)]
+#[cycle(readers)]
 fn args(kinds: &&[u8], joints: &&[u8], events: &mut [u64], state: State, inner: Depth) -> Moved
     ensures { (moved_reply result, events.new) ≡ run (lent kinds.now.now joints.now.now) (arguments (lent kinds.now.now joints.now.now) (expr_bp inner.0 (lent kinds.now.now joints.now.now))) state events.old }
 {
@@ -822,7 +822,7 @@ fn args(kinds: &&[u8], joints: &&[u8], events: &mut [u64], state: State, inner: 
 }
 
 // One argument and the comma after it, or the end.
-#[cycle(arg_arg_list_args_atom_expr_atoms_begun_call_expr_expr_expr_bp_index_expr_infixed_leading_lhs_oper_ops_paren_postfix_expr_range_refer_tail_unary)]
+#[cycle(readers)]
 fn arg(kinds: &&[u8], joints: &&[u8], events: &mut [u64], state: State, inner: Depth) -> Args
     ensures { (args_reply result, events.new) ≡ run (lent kinds.now.now joints.now.now) (argument (lent kinds.now.now joints.now.now) (expr_bp inner.0 (lent kinds.now.now joints.now.now))) state events.old }
 {
@@ -888,7 +888,7 @@ fn no_comma(kinds: &&[u8], joints: &&[u8], events: &mut [u64], state: State) -> 
 }
 
 // A literal, a path or a parenthesis.
-#[cycle(arg_arg_list_args_atom_expr_atoms_begun_call_expr_expr_expr_bp_index_expr_infixed_leading_lhs_oper_ops_paren_postfix_expr_range_refer_tail_unary)]
+#[cycle(readers)]
 fn atom_expr(
     kinds: &&[u8],
     joints: &&[u8],
@@ -938,7 +938,7 @@ fn lone_dot(kinds: &&[u8], joints: &&[u8], events: &mut [u64], state: State) -> 
 }
 
 // e.g. (1 + 2)
-#[cycle(arg_arg_list_args_atom_expr_atoms_begun_call_expr_expr_expr_bp_index_expr_infixed_leading_lhs_oper_ops_paren_postfix_expr_range_refer_tail_unary)]
+#[cycle(readers)]
 fn paren(kinds: &&[u8], joints: &&[u8], events: &mut [u64], state: State, inner: Depth) -> Closed
     ensures { (closed_reply result, events.new) ≡ run (lent kinds.now.now joints.now.now) (paren_expr (lent kinds.now.now joints.now.now) (expr_bp inner.0 (lent kinds.now.now joints.now.now))) state events.old }
 {

@@ -18,4 +18,4 @@ form_at_spec =
     (λ c. search tests depth 10)
     (λ c. search tests depth 10)
     (λ c. search tests depth 10)
-    (λ c. search (tests, c.match.rest.1, c.match.rest.0.1, c.match.rest.0.0.1, c.match.rest.0.0.0.1, c.before.kind_at.ensures, c.before.before.before.if1.false) depth 10))
+    (λ c. search (tests, c.in_default.in_default-own.rest.1, c.in_default.in_default-own.rest.0.1, c.in_default.in_default-own.rest.0.0.1, c.in_default.in_default-own.rest.0.0.0.1, c.before.kind_at-kind.ensures, c.before.before.before.if-recovery.false) depth 10))

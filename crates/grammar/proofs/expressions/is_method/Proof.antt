@@ -15,17 +15,17 @@ use Rattle.input.proofs.kind_at.Reads as kind-at-reads
 use Rattle.input.proofs.nth_at.Reads as nth-at-reads
 
 -- src/expressions.rt:400:31
-add-kind-at : tie.Need-overflow-add-kind-at
+add-kind-at : tie.Need-overflow_add-at
 add-kind-at c =
     let h : c.before.before.before.before.before.args.at < length c.before.before.before.before.before.args.kinds.now =
-    kind_inside (lent c.before.before.before.before.before.args.kinds.now c.before.before.before.before.before.args.joints.now) _ (λ q. omega (arith, c.before.before.kind_at.ensures)) in
+    kind_inside (lent c.before.before.before.before.before.args.kinds.now c.before.before.before.before.before.args.joints.now) _ (λ q. omega (arith, c.before.before.kind_at-kind.ensures)) in
     search rules
 
 -- src/expressions.rt:404:27
-add-nth-at : tie.Need-overflow-add-nth-at
+add-nth-at : tie.Need-overflow_add-at-2
 add-nth-at c =
     let h : c.before.before.before.before.before.before.before.args.at < length c.before.before.before.before.before.before.before.args.kinds.now =
-    kind_inside (lent c.before.before.before.before.before.before.before.args.kinds.now c.before.before.before.before.before.before.before.args.joints.now) _ (λ q. omega (arith, c.before.before.before.before.kind_at.ensures)) in
+    kind_inside (lent c.before.before.before.before.before.before.before.args.kinds.now c.before.before.before.before.before.before.before.args.joints.now) _ (λ q. omega (arith, c.before.before.before.before.kind_at-kind.ensures)) in
     search rules
 
 pub is_method_spec : {M : Type 1} → statement M

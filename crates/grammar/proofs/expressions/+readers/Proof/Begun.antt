@@ -4,8 +4,8 @@ use Rattle.grammar.specs.Expressions.{extended}
 use Prim.Native.Nat.{ℕ}
 use borrow.Author.Rules.{rules}
 use Rattle.grammar.proofs.expressions.begun.Reads as begun
-use Rattle.grammar.proofs.expressions.+arg_arg_list_args_atom_expr_atoms_begun_call_expr_expr_expr_bp_index_expr_infixed_leading_lhs_oper_ops_paren_postfix_expr_range_refer_tail_unary.Lts-begun as begun-lts
-use Rattle.grammar.proofs.expressions.+arg_arg_list_args_atom_expr_atoms_begun_call_expr_expr_expr_bp_index_expr_infixed_leading_lhs_oper_ops_paren_postfix_expr_range_refer_tail_unary.Proof.Common.{begun-at, begun-calls}
+use Rattle.grammar.proofs.expressions.+readers.Lts-begun as begun-lts
+use Rattle.grammar.proofs.expressions.+readers.Proof.Common.{begun-at, begun-calls}
 
 pub begun-met : {M : Type 1} (t : ℕ) → begun-lts.Closed (begun-calls t) (begun-at t) begun.Post M
 unfolding extended

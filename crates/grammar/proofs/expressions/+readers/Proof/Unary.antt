@@ -4,8 +4,8 @@ use Rattle.grammar.specs.Expressions.{prefix_expr}
 use Prim.Native.Nat.{ℕ}
 use borrow.Author.Rules.{rules}
 use Rattle.grammar.proofs.expressions.unary.Reads as unary
-use Rattle.grammar.proofs.expressions.+arg_arg_list_args_atom_expr_atoms_begun_call_expr_expr_expr_bp_index_expr_infixed_leading_lhs_oper_ops_paren_postfix_expr_range_refer_tail_unary.Lts-unary as unary-lts
-use Rattle.grammar.proofs.expressions.+arg_arg_list_args_atom_expr_atoms_begun_call_expr_expr_expr_bp_index_expr_infixed_leading_lhs_oper_ops_paren_postfix_expr_range_refer_tail_unary.Proof.Common.{unary-at, unary-calls}
+use Rattle.grammar.proofs.expressions.+readers.Lts-unary as unary-lts
+use Rattle.grammar.proofs.expressions.+readers.Proof.Common.{unary-at, unary-calls}
 
 pub unary-met : {M : Type 1} (t : ℕ) → unary-lts.Closed (unary-calls t) (unary-at t) unary.Post M
 unfolding prefix_expr

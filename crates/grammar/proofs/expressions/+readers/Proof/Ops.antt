@@ -12,15 +12,15 @@ use Rattle.grammar.proofs.Moves.{operator_less}
 use Prim.Native.Nat.{ℕ}
 use borrow.Author.Rules.{rules}
 use Rattle.grammar.proofs.expressions.ops.Reads as ops
-use Rattle.grammar.proofs.expressions.+arg_arg_list_args_atom_expr_atoms_begun_call_expr_expr_expr_bp_index_expr_infixed_leading_lhs_oper_ops_paren_postfix_expr_range_refer_tail_unary.Lts-ops as ops-lts
-use Rattle.grammar.proofs.expressions.+arg_arg_list_args_atom_expr_atoms_begun_call_expr_expr_expr_bp_index_expr_infixed_leading_lhs_oper_ops_paren_postfix_expr_range_refer_tail_unary.Proof.Common.{ops-at, ops-calls}
+use Rattle.grammar.proofs.expressions.+readers.Lts-ops as ops-lts
+use Rattle.grammar.proofs.expressions.+readers.Proof.Common.{ops-at, ops-calls}
 
-abbrev ops-Inv-loop : ops-lts.invariant-loop
+abbrev ops-Inv-loop : ops-lts.invariant-loop-s1
 ops-Inv-loop kinds joints events₀ b inner s₀ m₀ events s m =
     (length events ≡ length events₀)
     × Rest (lent kinds.now joints.now) (operator_turn (lent kinds.now joints.now) (expr_bp inner.0 (lent kinds.now joints.now)) b) (λ z. length kinds.now - z.0.pos.0) (run (lent kinds.now joints.now) (operators (lent kinds.now joints.now) (expr_bp inner.0 (lent kinds.now joints.now)) b m₀) s₀ events₀) (s, m, events)
 
-abbrev ops-μ-loop : ops-lts.decreases-loop
+abbrev ops-μ-loop : ops-lts.decreases-loop-s1
 ops-μ-loop kinds joints events₀ b inner s₀ m₀ events s m = length kinds.now - s.pos.0
 
 pub ops-met : {M : Type 1} (t : ℕ) → ops-lts.Closed (ops-calls t) (ops-at t) ops.Post M
@@ -31,7 +31,7 @@ ops-met t =
     (λ c κs. search rules)
     (λ c. search rules)
     (λ c. search operator_less depth 6)
-    (λ c. (search rules, rest_again _ _ _ _ _ c.before.before.before.before.before.before.before.loop.invariant.1 (search loops depth 10) (search operator_less depth 6)))
+    (λ c. (search rules, rest_again _ _ _ _ _ c.before.before.before.before.before.loop-s1.invariant.1 (search loops depth 10) (search operator_less depth 6)))
     (λ c. search rules)
     (λ c. search rules)
     (λ c. search (loops, rest_done) depth 10)

@@ -4,8 +4,8 @@ use Rattle.grammar.specs.Expressions.{expression}
 use Prim.Native.Nat.{ℕ}
 use borrow.Author.Rules.{rules}
 use Rattle.grammar.proofs.expressions.expr.Reads as expr
-use Rattle.grammar.proofs.expressions.+arg_arg_list_args_atom_expr_atoms_begun_call_expr_expr_expr_bp_index_expr_infixed_leading_lhs_oper_ops_paren_postfix_expr_range_refer_tail_unary.Lts-expr as expr-lts
-use Rattle.grammar.proofs.expressions.+arg_arg_list_args_atom_expr_atoms_begun_call_expr_expr_expr_bp_index_expr_infixed_leading_lhs_oper_ops_paren_postfix_expr_range_refer_tail_unary.Proof.Common.{expr-at, expr-calls}
+use Rattle.grammar.proofs.expressions.+readers.Lts-expr as expr-lts
+use Rattle.grammar.proofs.expressions.+readers.Proof.Common.{expr-at, expr-calls}
 
 pub expr-met : {M : Type 1} (t : ℕ) → expr-lts.Closed (expr-calls t) (expr-at t) expr.Post M
 unfolding expression

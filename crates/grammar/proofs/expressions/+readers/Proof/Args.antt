@@ -12,15 +12,15 @@ use Rattle.grammar.proofs.Moves.{argument_less}
 use Prim.Native.Nat.{ℕ}
 use borrow.Author.Rules.{rules}
 use Rattle.grammar.proofs.expressions.args.Reads as args
-use Rattle.grammar.proofs.expressions.+arg_arg_list_args_atom_expr_atoms_begun_call_expr_expr_expr_bp_index_expr_infixed_leading_lhs_oper_ops_paren_postfix_expr_range_refer_tail_unary.Lts-args as args-lts
-use Rattle.grammar.proofs.expressions.+arg_arg_list_args_atom_expr_atoms_begun_call_expr_expr_expr_bp_index_expr_infixed_leading_lhs_oper_ops_paren_postfix_expr_range_refer_tail_unary.Proof.Common.{args_at, args-calls}
+use Rattle.grammar.proofs.expressions.+readers.Lts-args as args-lts
+use Rattle.grammar.proofs.expressions.+readers.Proof.Common.{args_at, args-calls}
 
-abbrev args-Inv-loop : args-lts.invariant-loop
+abbrev args-Inv-loop : args-lts.invariant-loop-s1
 args-Inv-loop kinds joints events₀ inner s₀ events s =
     (length events ≡ length events₀)
     × Rest (lent kinds.now joints.now) (λ _. argument (lent kinds.now joints.now) (expr_bp inner.0 (lent kinds.now joints.now))) (λ z. length kinds.now - z.0.pos.0) (run (lent kinds.now joints.now) (arguments (lent kinds.now joints.now) (expr_bp inner.0 (lent kinds.now joints.now))) s₀ events₀) (s, tt, events)
 
-abbrev args-μ-loop : args-lts.decreases-loop
+abbrev args-μ-loop : args-lts.decreases-loop-s1
 args-μ-loop kinds joints events₀ inner s₀ events s = length kinds.now - s.pos.0
 
 pub args-met : {M : Type 1} (t : ℕ) → args-lts.Closed (args-calls t) (args_at t) args.Post M
@@ -31,7 +31,7 @@ args-met t =
     (λ c κs. search rules)
     (λ c. search rules)
     (λ c. search argument_less depth 6)
-    (λ c. (search rules, rest_again _ _ _ _ _ c.before.before.before.before.before.before.before.loop.invariant.1 (search loops depth 10) (search argument_less depth 6)))
+    (λ c. (search rules, rest_again _ _ _ _ _ c.before.before.before.before.before.loop-s1.invariant.1 (search loops depth 10) (search argument_less depth 6)))
     (λ c. search rules)
     (λ c. search rules)
     (λ c. search (loops, rest_done) depth 10)

@@ -4,8 +4,8 @@ use Rattle.grammar.proofs.Laws.{grammar}
 use Rattle.grammar.specs.Expressions.{bin_expr}
 use Prim.Native.Nat.{ℕ}
 use borrow.Author.Rules.{rules}
-use Rattle.grammar.proofs.expressions.+arg_arg_list_args_atom_expr_atoms_begun_call_expr_expr_expr_bp_index_expr_infixed_leading_lhs_oper_ops_paren_postfix_expr_range_refer_tail_unary.Lts-infixed as infixed-lts
-use Rattle.grammar.proofs.expressions.+arg_arg_list_args_atom_expr_atoms_begun_call_expr_expr_expr_bp_index_expr_infixed_leading_lhs_oper_ops_paren_postfix_expr_range_refer_tail_unary.Proof.Common.{infixed-at, infixed-calls}
+use Rattle.grammar.proofs.expressions.+readers.Lts-infixed as infixed-lts
+use Rattle.grammar.proofs.expressions.+readers.Proof.Common.{infixed-at, infixed-calls}
 
 pub infixed-met : {M : Type 1} (t : ℕ) → infixed-lts.Closed (infixed-calls t) (infixed-at t) infixed.Post M
 unfolding bin_expr

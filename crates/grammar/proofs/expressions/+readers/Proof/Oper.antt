@@ -4,8 +4,8 @@ use Rattle.grammar.specs.Expressions.{operator_turn}
 use Prim.Native.Nat.{ℕ}
 use borrow.Author.Rules.{rules}
 use Rattle.grammar.proofs.expressions.oper.Reads as oper
-use Rattle.grammar.proofs.expressions.+arg_arg_list_args_atom_expr_atoms_begun_call_expr_expr_expr_bp_index_expr_infixed_leading_lhs_oper_ops_paren_postfix_expr_range_refer_tail_unary.Lts-oper as oper-lts
-use Rattle.grammar.proofs.expressions.+arg_arg_list_args_atom_expr_atoms_begun_call_expr_expr_expr_bp_index_expr_infixed_leading_lhs_oper_ops_paren_postfix_expr_range_refer_tail_unary.Proof.Common.{oper-at, oper-calls}
+use Rattle.grammar.proofs.expressions.+readers.Lts-oper as oper-lts
+use Rattle.grammar.proofs.expressions.+readers.Proof.Common.{oper-at, oper-calls}
 
 pub oper-met : {M : Type 1} (t : ℕ) → oper-lts.Closed (oper-calls t) (oper-at t) oper.Post M
 unfolding operator_turn
@@ -25,4 +25,4 @@ oper-met t =
     (λ c κs. search rules)
     (λ c κs. search rules)
     (λ c. search rules)
-    (λ c. search (grammar, c.turn-of2.ensures, c.before.before.before.infixed.ensures, c.before.before.before.before.before.if3.false, c.before.before.before.before.before.before.is_range.ensures, c.before.before.before.before.before.before.before.if2.false, c.before.before.before.before.before.before.before.before.before.if1.false, c.before.before.before.before.before.before.before.before.before.before.before.current_op.ensures) depth 14)
+    (λ c. search (grammar, c.turn_of-2.ensures, c.before.before.before.infixed.ensures, c.before.before.before.before.before.if-is_range.false, c.before.before.before.before.before.before.is_range.ensures, c.before.before.before.before.before.before.before.if-op-eq-AS_KW.false, c.before.before.before.before.before.before.before.before.before.if-op-b.false, c.before.before.before.before.before.before.before.before.before.before.before.current_op-op.ensures) depth 14)

@@ -4,8 +4,8 @@ use Rattle.grammar.specs.Expressions.{arg_list}
 use Prim.Native.Nat.{ℕ}
 use borrow.Author.Rules.{rules}
 use Rattle.grammar.proofs.expressions.arg_list.Reads as arg-list
-use Rattle.grammar.proofs.expressions.+arg_arg_list_args_atom_expr_atoms_begun_call_expr_expr_expr_bp_index_expr_infixed_leading_lhs_oper_ops_paren_postfix_expr_range_refer_tail_unary.Lts-arg_list as arg-list-lts
-use Rattle.grammar.proofs.expressions.+arg_arg_list_args_atom_expr_atoms_begun_call_expr_expr_expr_bp_index_expr_infixed_leading_lhs_oper_ops_paren_postfix_expr_range_refer_tail_unary.Proof.Common.{arg-list-at, arg-list-calls}
+use Rattle.grammar.proofs.expressions.+readers.Lts-arg_list as arg-list-lts
+use Rattle.grammar.proofs.expressions.+readers.Proof.Common.{arg-list-at, arg-list-calls}
 
 pub arg-list-met : {M : Type 1} (t : ℕ) → arg-list-lts.Closed (arg-list-calls t) (arg-list-at t) arg-list.Post M
 unfolding arg_list

@@ -4,8 +4,8 @@ use Rattle.grammar.specs.Expressions.{index_expr}
 use Prim.Native.Nat.{ℕ}
 use borrow.Author.Rules.{rules}
 use Rattle.grammar.proofs.expressions.index_expr.Reads as index-expr
-use Rattle.grammar.proofs.expressions.+arg_arg_list_args_atom_expr_atoms_begun_call_expr_expr_expr_bp_index_expr_infixed_leading_lhs_oper_ops_paren_postfix_expr_range_refer_tail_unary.Lts-index_expr as index-expr-lts
-use Rattle.grammar.proofs.expressions.+arg_arg_list_args_atom_expr_atoms_begun_call_expr_expr_expr_bp_index_expr_infixed_leading_lhs_oper_ops_paren_postfix_expr_range_refer_tail_unary.Proof.Common.{index-expr-at, index-expr-calls}
+use Rattle.grammar.proofs.expressions.+readers.Lts-index_expr as index-expr-lts
+use Rattle.grammar.proofs.expressions.+readers.Proof.Common.{index-expr-at, index-expr-calls}
 
 pub index-expr-met : {M : Type 1} (t : ℕ) → index-expr-lts.Closed (index-expr-calls t) (index-expr-at t) index-expr.Post M
 unfolding index_expr

@@ -4,8 +4,8 @@ use Rattle.grammar.specs.Forms.{any_call}
 use Prim.Native.Nat.{ℕ}
 use borrow.Author.Rules.{rules}
 use Rattle.grammar.proofs.expressions.call_expr.Reads as call-expr
-use Rattle.grammar.proofs.expressions.+arg_arg_list_args_atom_expr_atoms_begun_call_expr_expr_expr_bp_index_expr_infixed_leading_lhs_oper_ops_paren_postfix_expr_range_refer_tail_unary.Lts-call_expr as call-expr-lts
-use Rattle.grammar.proofs.expressions.+arg_arg_list_args_atom_expr_atoms_begun_call_expr_expr_expr_bp_index_expr_infixed_leading_lhs_oper_ops_paren_postfix_expr_range_refer_tail_unary.Proof.Common.{call-expr-at, call-expr-calls}
+use Rattle.grammar.proofs.expressions.+readers.Lts-call_expr as call-expr-lts
+use Rattle.grammar.proofs.expressions.+readers.Proof.Common.{call-expr-at, call-expr-calls}
 
 pub call-expr-met : {M : Type 1} (t : ℕ) → call-expr-lts.Closed (call-expr-calls t) (call-expr-at t) call-expr.Post M
 unfolding any_call
