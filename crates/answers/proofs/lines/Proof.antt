@@ -9,51 +9,51 @@ use Rattle.answers.proofs.Putting.{put_nothing, line_more, line_all}
 use Rattle.answers.proofs.lines.Statement.{statement}
 use Rattle.answers.proofs.lines.Tie as tie
 
-abbrev invariant-loop : tie.invariant-loop
-invariant-loop out₀ at steps end₀ i₀ out end i = (length out ≡ length out₀) × (i ≤ length steps) × Put out₀ at (lines_of (take i steps)) end out
+abbrev invariant-loop-i : tie.invariant-loop-i
+invariant-loop-i out₀ at steps end₀ i₀ out end i = (length out ≡ length out₀) × (i ≤ length steps) × Put out₀ at (lines_of (take i steps)) end out
 
-abbrev decreases-loop : tie.decreases-loop
-decreases-loop out₀ at steps end₀ i₀ out end i = length steps - i
+abbrev decreases-loop-i : tie.decreases-loop-i
+decreases-loop-i out₀ at steps end₀ i₀ out end i = length steps - i
 
-loop-holds : tie.Need-loop-init invariant-loop decreases-loop
+loop-holds : tie.Need-loop-i-init invariant-loop-i decreases-loop-i
 unfolding lines_of
 loop-holds c = (refl, omega arith, put_nothing _ _)
 
-mul_wide : tie.Need-overflow-mul-wide invariant-loop decreases-loop
+mul_wide : tie.Need-offset_bounds-steps-i invariant-loop-i decreases-loop-i
 mul_wide c = search rules
 
-shared-slice-read-wide : tie.Need-shared-slice-read-wide invariant-loop decreases-loop
+shared-slice-read-wide : tie.Need-bounds-steps-i invariant-loop-i decreases-loop-i
 shared-slice-read-wide c = search rules
 
-wide-requires : tie.Need-wide-requires invariant-loop decreases-loop
+wide-requires : tie.Need-wide-requires invariant-loop-i decreases-loop-i
 wide-requires c κs = search rules
 
-line-requires : tie.Need-line-requires invariant-loop decreases-loop
+line-requires : tie.Need-line-end-requires invariant-loop-i decreases-loop-i
 line-requires c κs = search rules
 
-add-i : tie.Need-overflow-add-i invariant-loop decreases-loop
+add-i : tie.Need-overflow_add-i invariant-loop-i decreases-loop-i
 add-i c = search rules
 
-loop-less : tie.Need-loop-smaller invariant-loop decreases-loop
+loop-less : tie.Need-loop-i-smaller invariant-loop-i decreases-loop-i
 loop-less c = search rules
 
-loop-again : tie.Need-loop-preserved invariant-loop decreases-loop
+loop-again : tie.Need-loop-i-preserved invariant-loop-i decreases-loop-i
 loop-again c =
-    let l = c.before.before.before.before.before.before.before.loop in
-    (search rules, omega arith, line_more _ l.i (omega arith) c.before.before.before.wide.ensures l.invariant.2 c.before.before.line.ensures)
+    let l = c.before.before.before.before.before.before.before.loop-i in
+    (search rules, omega arith, line_more _ l.i (omega arith) c.before.before.before.wide.ensures l.invariant.2 c.before.before.line-end.ensures)
 
-same_length : tie.Need-same-length invariant-loop decreases-loop
+same_length : tie.Need-shape_of-out invariant-loop-i decreases-loop-i
 same_length c = search rules
 
-returns : tie.Need-returns invariant-loop decreases-loop
-returns c = line_all _ c.before.loop.i (omega arith) c.before.loop.invariant.2
+returns : tie.Need-returns invariant-loop-i decreases-loop-i
+returns c = line_all _ c.before.loop-i.i (omega arith) c.before.loop-i.invariant.2
 
 pub lines_spec : {M : Type 1} → statement M
 lines_spec =
     tie.close
     (tie.spec
-    invariant-loop
-    decreases-loop
+    invariant-loop-i
+    decreases-loop-i
     loop-holds
     mul_wide
     shared-slice-read-wide

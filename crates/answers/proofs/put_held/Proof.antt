@@ -13,4 +13,4 @@ put_held_spec =
     (λ c. search rules)
     (λ c. search rules)
     (λ c. search rules)
-    (λ c. put_answered c.before.before.before.before.before.before.before.before.before.answer_of.ensures c.before.before.put_answer.ensures))
+    (λ c. put_answered c.before.before.before.before.before.before.before.before.answer_of-answer.ensures c.before.before.put_answer.ensures))

@@ -10,11 +10,9 @@ unfolding refusal_text
 put_refusal_spec =
     tie.close
     (tie.spec
-    (λ c. search rules)
     (λ c κs. search rules)
     (λ c. search rules)
     (λ c κs. search rules)
-    (λ c. search rules)
     (λ c κs. search rules)
     (λ c κs. search rules)
     (λ c. search rules)
