@@ -31,10 +31,15 @@ Faulty [] = ⊥
 Faulty (e ∷ es) = Wrong e ⊎ Faulty es
 
 clear_wrong : (e : Event) → Wrong e → Wrong (clear e)
+clear_wrong (start _ _ _) w = elim w [ ]
+clear_wrong finish w = elim w [ ]
+clear_wrong (token _ _) w = elim w [ ]
+clear_wrong (split _) w = elim w [ ]
 clear_wrong (error c) w = tt
 
 chain_faulty : (es : List Event) (f : ℕ) → Faulty es → Faulty (chain es f).1
 unfolding chain
+chain_faulty [] f h = elim h [ ]
 chain_faulty (e ∷ es) zero h = h
 chain_faulty (e ∷ es) (suc zero) (inl w) = inl (clear_wrong e w)
 chain_faulty (e ∷ es) (suc zero) (inr h) = inr (chain_faulty es (next e) h)
@@ -47,6 +52,10 @@ no_errors_right [] m h = h
 no_errors_right (x ∷ l) m h = no_errors_right l m h.1
 
 own_wrong : (c : Bool) (e : Event) (l : List Step) → Wrong e → NoErrors (map code_of (own c e ++ l)) → ⊥
+own_wrong c (start _ _ _) l w h = elim w [ ]
+own_wrong c finish l w h = elim w [ ]
+own_wrong c (token _ _) l w h = elim w [ ]
+own_wrong c (split _) l w h = elim w [ ]
 own_wrong c (error k) l w h = omega (arith, h.0)
 
 own_right : (c : Bool) (e : Event) (l : List Step) → NoErrors (map code_of (own c e ++ l)) → NoErrors (map code_of l)
@@ -58,6 +67,8 @@ enters_right (x ∷ l) m h = enters_right l m h.1
 
 pass_faulty : (n : ℕ) (c : Bool) (es : List Event) → length es ≤ n → Faulty es → NoErrors (map code_of (pass n c es)) → ⊥
 unfolding pass
+pass_faulty zero c [] l f h = elim f [ ]
+pass_faulty (suc n) c [] l f h = elim f [ ]
 pass_faulty zero c (e ∷ es) l f h = omega arith
 pass_faulty (suc n) c (e ∷ es) l (inl w) h = own_wrong c e _ w (enters_right ((chain es (next e)).0 ++ names e) _ h)
 pass_faulty (suc n) c (e ∷ es) l (inr f) h =

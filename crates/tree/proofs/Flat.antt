@@ -136,6 +136,9 @@ inner (ext c) = inner c
 
 steps_is : (t : Shape) → Rooted t → steps t ≡ enter (root_name t) ∷ inner t
 unfolding steps inner root_name
+steps_is nil r = elim r [ ]
+steps_is (tok _ _) r = elim r [ ]
+steps_is (both _ _) r = elim r [ ]
 steps_is (node k a) r = refl
 steps_is (led z k c a) r = refl
 steps_is (ext c) r = steps_is c r

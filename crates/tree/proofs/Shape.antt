@@ -152,18 +152,27 @@ back (ext c) = back c
 
 pub code_is : (t : Shape) (off : ℕ) → Rooted t → code t off ≡ front t ++ (start (named (root_name t)) off (root_flag t) ∷ back t)
 unfolding code front back root_name root_flag
+code_is nil off r = elim r [ ]
+code_is (tok _ _) off r = elim r [ ]
+code_is (both _ _) off r = elim r [ ]
 code_is (node k a) off r = refl
 code_is (led z k c a) off r = refl
 code_is (ext c) off r = ap (λ (l : List Event). start spent (suc (root c)) false ∷ l) (code_is c off r)
 
 pub front_is : (t : Shape) → Rooted t → length (front t) ≡ root t
 unfolding front root
+front_is nil r = elim r [ ]
+front_is (tok _ _) r = elim r [ ]
+front_is (both _ _) r = elim r [ ]
 front_is (node k a) r = refl
 front_is (led z k c a) r = size_is c (reach c)
 front_is (ext c) r = ap suc (front_is c r)
 
 pub back_is : (t : Shape) → Rooted t → reach t ≡ suc (length (back t))
 unfolding reach back
+back_is nil r = elim r [ ]
+back_is (tok _ _) r = elim r [ ]
+back_is (both _ _) r = elim r [ ]
 back_is (node k a) r = simp (length-append, size_is a 0)
 back_is (led z k c a) r = simp (length-append, size_is a 0)
 back_is (ext c) r = back_is c r

@@ -14,31 +14,28 @@ use Rattle.revision.proofs.same.Reads as same_Reads
 same-requires : tie.Need-same-requires
 same-requires c κs = search rules
 
-slice-aggregate-word : tie.Need-slice-aggregate-word
-slice-aggregate-word c = search rules
-
 word-requires : tie.Need-word-requires
 word-requires c κs = search rules
 
-same_length : tie.Need-same-length
+same_length : tie.Need-shape_of-out-then-same
 same_length c = search rules
 
-returns : tie.Need-returns
+returns : tie.Need-returns-then-same
 returns c = search (compared_same, rules)
 
-common-requires : tie.Need-common-requires
+common-requires : tie.Need-common-n-requires
 common-requires c κs = search rules
 
-put-differs-requires : tie.Need-put-differs-requires
+put-differs-requires : tie.Need-put_differs-next-requires
 put-differs-requires c κs = search rules
 
-put-rest-requires : tie.Need-put-rest-requires
+put-rest-requires : tie.Need-put_rest-requires
 put-rest-requires c κs = search rules
 
-same-length-2 : tie.Need-same-length-2
+same-length-2 : tie.Need-shape_of-out
 same-length-2 c = search rules
 
-returns-2 : tie.Need-returns-2
+returns-2 : tie.Need-returns
 returns-2 c = search (compared_other, rules)
 
 pub put_compared_spec : {M : Type 1} → statement M
@@ -46,7 +43,6 @@ put_compared_spec =
     tie.close
     (tie.spec
     same-requires
-    slice-aggregate-word
     word-requires
     same_length
     returns

@@ -10,19 +10,16 @@ use Rattle.answers.proofs.decimal.Reads as decimal-reads
 use Rattle.answers.proofs.word.Reads as word-reads
 use Rattle.revision.proofs.put_pair.Reads as put-pair-reads
 
-decimal-requires : tie.Need-decimal-requires
+decimal-requires : tie.Need-decimal-next-requires
 decimal-requires c κs = search rules
 
-slice-aggregate-word : tie.Need-slice-aggregate-word
-slice-aggregate-word c = search rules
-
-word-requires : tie.Need-word-requires
+word-requires : tie.Need-word-next-requires
 word-requires c κs = search rules
 
-put-pair-requires : tie.Need-put-pair-requires
+put-pair-requires : tie.Need-put_pair-requires
 put-pair-requires c κs = search rules
 
-same_length : tie.Need-same-length
+same_length : tie.Need-shape_of-out
 same_length c = search rules
 
 returns : tie.Need-returns
@@ -34,7 +31,6 @@ put_differ_spec =
     tie.close
     (tie.spec
     decimal-requires
-    slice-aggregate-word
     word-requires
     put-pair-requires
     same_length

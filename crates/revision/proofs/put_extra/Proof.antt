@@ -9,13 +9,13 @@ use Rattle.revision.proofs.put_extra.Lts as lts
 use Rattle.answers.proofs.word.Reads as word-reads
 use Rattle.revision.proofs.put_pair.Reads as put-pair-reads
 
-word-requires : tie.Need-word-requires
+word-requires : tie.Need-word-next-requires
 word-requires c κs = search rules
 
-put-pair-requires : tie.Need-put-pair-requires
+put-pair-requires : tie.Need-put_pair-requires
 put-pair-requires c κs = search rules
 
-same_length : tie.Need-same-length
+same_length : tie.Need-shape_of-out
 same_length c = search rules
 
 returns : tie.Need-returns

@@ -14,45 +14,45 @@ use Rattle.revision.proofs.put_extras.Lts as lts
 use Rattle.revision.proofs.put_extra.Reads as put-extra-reads
 use Rattle.operand.proofs.step_at.Reads as step-at-reads
 
-abbrev invariant-loop : tie.invariant-loop
-invariant-loop out₀ at name from rest end₀ i₀ out end i = (length out ≡ length out₀) × (i ≤ length rest) × Put out₀ at (extras_text name from rest i) end out
+abbrev invariant-loop-i : tie.invariant-loop-i
+invariant-loop-i out₀ at name from rest end₀ i₀ out end i = (length out ≡ length out₀) × (i ≤ length rest) × Put out₀ at (extras_text name from rest i) end out
 
-abbrev decreases-loop : tie.decreases-loop
-decreases-loop out₀ at name from rest end₀ i₀ out end i = length rest - i
+abbrev decreases-loop-i : tie.decreases-loop-i
+decreases-loop-i out₀ at name from rest end₀ i₀ out end i = length rest - i
 
-loop-holds : tie.Need-loop-init invariant-loop decreases-loop
+loop-holds : tie.Need-loop-i-init invariant-loop-i decreases-loop-i
 loop-holds c = (refl, omega arith, extras_none _ _ _ _ _)
 
-add-put-extra : tie.Need-overflow-add-put-extra invariant-loop decreases-loop
+add-put-extra : tie.Need-overflow_add-from invariant-loop-i decreases-loop-i
 add-put-extra c = search rules
 
-step-at-requires : tie.Need-step-at-requires invariant-loop decreases-loop
+step-at-requires : tie.Need-step_at-requires invariant-loop-i decreases-loop-i
 step-at-requires c κs = search rules
 
-put-extra-requires : tie.Need-put-extra-requires invariant-loop decreases-loop
+put-extra-requires : tie.Need-put_extra-end-requires invariant-loop-i decreases-loop-i
 put-extra-requires c κs = search rules
 
-add-i : tie.Need-overflow-add-i invariant-loop decreases-loop
+add-i : tie.Need-overflow_add-i invariant-loop-i decreases-loop-i
 add-i c = search rules
 
-loop-less : tie.Need-loop-smaller invariant-loop decreases-loop
+loop-less : tie.Need-loop-i-smaller invariant-loop-i decreases-loop-i
 loop-less c = search rules
 
-loop-again : tie.Need-loop-preserved invariant-loop decreases-loop
+loop-again : tie.Need-loop-i-preserved invariant-loop-i decreases-loop-i
 loop-again c = (search rules, omega arith, search (extras_more, rules))
 
-same_length : tie.Need-same-length invariant-loop decreases-loop
+same_length : tie.Need-shape_of-out invariant-loop-i decreases-loop-i
 same_length c = search rules
 
-returns : tie.Need-returns invariant-loop decreases-loop
+returns : tie.Need-returns invariant-loop-i decreases-loop-i
 returns c = search (extras_all, rules)
 
 pub put_extras_spec : {M : Type 1} → statement M
 put_extras_spec =
     tie.close
     (tie.spec
-    invariant-loop
-    decreases-loop
+    invariant-loop-i
+    decreases-loop-i
     loop-holds
     add-put-extra
     step-at-requires

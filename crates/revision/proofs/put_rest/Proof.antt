@@ -9,34 +9,28 @@ use Rattle.revision.proofs.common.Reads as common-reads
 use Rattle.revision.proofs.put_extras.Reads as put-extras-reads
 use Rattle.revision.proofs.rest.Reads as rest-reads
 
-common-requires : tie.Need-common-requires
+common-requires : tie.Need-common-n-requires
 common-requires c κs = search rules
 
-rest-requires : tie.Need-rest-requires
+rest-requires : tie.Need-rest-tail-requires
 rest-requires c κs = search rules
 
-slice-aggregate-put-extras : tie.Need-slice-aggregate-put-extras
-slice-aggregate-put-extras c = search rules
-
-put-extras-requires : tie.Need-put-extras-requires
+put-extras-requires : tie.Need-put_extras-requires
 put-extras-requires c κs = search (rest_fits, rules)
 
-same_length : tie.Need-same-length
+same_length : tie.Need-shape_of-out-then-first-second
 same_length c = search rules
 
-returns : tie.Need-returns
+returns : tie.Need-returns-then-first-second
 returns c = search (extra_second, rules)
 
-slice-aggregate-put-extras-2 : tie.Need-slice-aggregate-put-extras-2
-slice-aggregate-put-extras-2 c = search rules
-
-put-extras-requires-2 : tie.Need-put-extras-requires-2
+put-extras-requires-2 : tie.Need-put_extras-requires-2
 put-extras-requires-2 c κs = search (rest_fits, rules)
 
-same-length-2 : tie.Need-same-length-2
+same-length-2 : tie.Need-shape_of-out
 same-length-2 c = search rules
 
-returns-2 : tie.Need-returns-2
+returns-2 : tie.Need-returns
 returns-2 c = search (extra_first, rules)
 
 pub put_rest_spec : {M : Type 1} → statement M
@@ -45,11 +39,9 @@ put_rest_spec =
     (tie.spec
     common-requires
     rest-requires
-    slice-aggregate-put-extras
     put-extras-requires
     same_length
     returns
-    slice-aggregate-put-extras-2
     put-extras-requires-2
     same-length-2
     returns-2)

@@ -9,31 +9,31 @@ use Rattle.answers.proofs.given.Reads as given-reads
 use Rattle.answers.proofs.put_refusal.Reads as put-refusal-reads
 use Rattle.revision.proofs.put_second.Reads as put-second-reads
 
-enum-known-answer : tie.Need-enum-known-answer
+enum-known-answer : tie.Need-enum_known-answer
 enum-known-answer c = search rules
 
 given-requires : tie.Need-given-requires
 given-requires c κs = search rules
 
-put-second-requires : tie.Need-put-second-requires
+put-second-requires : tie.Need-put_second-requires
 put-second-requires c κs = search rules
 
-enum-known-answer-2 : tie.Need-enum-known-answer-2
+enum-known-answer-2 : tie.Need-enum_known-answer-in-Refused-1
 enum-known-answer-2 c = search rules
 
-put-refusal-requires : tie.Need-put-refusal-requires
+put-refusal-requires : tie.Need-put_refusal-requires
 put-refusal-requires c κs = search rules
 
-same_length : tie.Need-same-length
+same_length : tie.Need-shape_of-out-in-Steps
 same_length c = search rules
 
-returns : tie.Need-returns
+returns : tie.Need-returns-in-Steps
 returns c = search (first_read, rules)
 
-same-length-2 : tie.Need-same-length-2
+same-length-2 : tie.Need-shape_of-out-in-Refused
 same-length-2 c = search rules
 
-returns-2 : tie.Need-returns-2
+returns-2 : tie.Need-returns-in-Refused
 returns-2 c = search (first_refused, rules)
 
 pub put_revisions_spec : {M : Type 1} → statement M

@@ -8,22 +8,22 @@ use Rattle.revision.proofs.put_step.Lts as lts
 use Rattle.revision.proofs.put_differ.Reads as put-differ-reads
 use Rattle.operand.proofs.step_at.Reads as step-at-reads
 
-step-at-requires : tie.Need-step-at-requires
+step-at-requires : tie.Need-step_at-x-requires
 step-at-requires c κs = search rules
 
-step-at-requires-2 : tie.Need-step-at-requires-2
+step-at-requires-2 : tie.Need-step_at-y-requires
 step-at-requires-2 c κs = search rules
 
-returns : tie.Need-returns
+returns : tie.Need-returns-then-x-y
 returns c = search (put_same, rules)
 
-put-differ-requires : tie.Need-put-differ-requires
+put-differ-requires : tie.Need-put_differ-requires
 put-differ-requires c κs = search rules
 
-same_length : tie.Need-same-length
+same_length : tie.Need-shape_of-out
 same_length c = search rules
 
-returns-2 : tie.Need-returns-2
+returns-2 : tie.Need-returns
 returns-2 c = search (put_other, rules)
 
 pub put_step_spec : {M : Type 1} → statement M

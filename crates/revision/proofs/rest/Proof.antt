@@ -6,34 +6,34 @@ use Rattle.revision.proofs.rest.Tie as tie
 use Rattle.revision.proofs.rest.Reads as reads
 use Rattle.revision.proofs.rest.Lts as lts
 
-mul-result : tie.Need-overflow-mul-result
+mul-result : tie.Need-offset_bounds-second-first
 mul-result c = search rules
 
-sub-result : tie.Need-overflow-sub-result
+sub-result : tie.Need-slice_bounds-result-count
 sub-result c = search rules
 
-part-result-start : tie.Need-slice-bounds-result-start
+part-result-start : tie.Need-slice_bounds-result-start
 part-result-start c = search rules
 
-part-result-end : tie.Need-slice-bounds-result-end
+part-result-end : tie.Need-slice_bounds-result-end
 part-result-end c = search rules
 
-mul-result-2 : tie.Need-overflow-mul-result-2
+mul-result-2 : tie.Need-offset_bounds-first-second
 mul-result-2 c = search rules
 
-sub-result-2 : tie.Need-overflow-sub-result-2
+sub-result-2 : tie.Need-slice_bounds-result-count-else-first-second
 sub-result-2 c = search rules
 
-part-result-start-2 : tie.Need-slice-bounds-result-start-2
+part-result-start-2 : tie.Need-slice_bounds-result-start-else-first-second
 part-result-start-2 c = search rules
 
-part-result-end-2 : tie.Need-slice-bounds-result-end-2
+part-result-end-2 : tie.Need-slice_bounds-result-end-else-first-second
 part-result-end-2 c = search rules
 
-returns : tie.Need-returns
+returns : tie.Need-returns-then-first-second
 returns c = search (rest_second, rules)
 
-returns-2 : tie.Need-returns-2
+returns-2 : tie.Need-returns-else-first-second
 returns-2 c = search (rest_first, rules)
 
 pub rest_spec : {M : Type 1} → statement M
