@@ -1,10 +1,9 @@
 -- What the programs answer for bytes: the refusals of the stored form, and the reader's answer with room of 16n + 16.
-use Rattle.std.specs.Prelude.{ℕ, ◌+◌, ◌*◌, ◌/◌, min, ◌≡◌, List, ◌++◌, length, take, drop, ltb}
+use Rattle.std.specs.Prelude.{ℕ, ◌+◌, ◌*◌, ◌/◌, List, ◌++◌, length, take, drop, ltb}
 use Rattle.base.specs.Base.{pick, whether, bound}
 use Rattle.input.specs.Input.{lent}
 use Rattle.input.specs.SyntaxKind.{BAD_LENGTH, BROKEN_FORM}
 use Rattle.reader.specs.Reader.{Answer, parse_of}
-use Rattle.reader.specs.declared.Parsed.{Parsed}
 use Rattle.reader.specs.declared.Parsed.TheVariants as parsed
 use Rattle.stored.specs.Stored.{kinds_of, joints_of, long_of, first_of, on_stored}
 use Rattle.stored.specs.declared.Form.{Form}

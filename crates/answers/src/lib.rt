@@ -1,4 +1,6 @@
 // The answer to a stored form, and the text that the programs print for it.
+#![tactic(auto)]
+
 ghost use Rattle.std.specs.Prelude.{◌≡◌, [], ◌∷◌, ◌≤◌, length, take};
 ghost use Rattle.answers.specs.Text.{Put, digit_of, digits_of, decimal_of, line_of, lines_of, newline, head_text, steps_text, refusal_text, text_of};
 ghost use Rattle.answers.specs.Answers.{room_of, form_answer, held_answer, first_limited};

@@ -1,5 +1,5 @@
 -- The rules that read no expression inside: taking, errors, names, paths, types. A rule is a program of machine calls.
-use Rattle.std.specs.Prelude.{ℕ, zero, suc, ◌+◌, Bool, true, false, List, [], ◌∷◌, length, ltb, leb, eqb}
+use Rattle.std.specs.Prelude.{ℕ, suc, ◌+◌, length, eqb}
 use Rattle.base.specs.Base.{whether, bound, Next, again, done}
 use Rattle.input.specs.SyntaxKind.{IDENT, AS_KW, L_PAREN, BANG, L_ANGLE, COLON2, NEQ, LTEQ, ERROR, PATH, PATH_SEGMENT, NAME_REF, CAST_EXPR, PATH_TYPE, EXPECTED_EXPRESSION, EXPECTED_TYPE, OUTSIDE_CUT, UNFIT}
 use Rattle.input.specs.Input.{Tokens, kind_at, present}

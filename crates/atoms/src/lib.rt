@@ -1,4 +1,6 @@
 // What the grammar reads without an expression inside: taking, errors, names, paths, types.
+#![tactic(auto)]
+
 pub mod atom;
 pub mod paths;
 pub mod types;

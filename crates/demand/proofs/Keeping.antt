@@ -9,7 +9,7 @@ use lib.ListN.{length, get_or, set, take, drop, drop_of_length-le}
 use lib.Seq.{split_at, get_or-append_seam}
 use Rattle.demand.specs.Lists.{tally, gather}
 use Rattle.demand.proofs.Sums.{Above, tally_append, tally_set, gather_append, gather_set, above_more, above_append, above_set, above_init}
-use Rattle.event.specs.Event.{Status, live, named, Event, start, finish}
+use Rattle.event.specs.Event.{Status, live, Event, start, finish}
 use Rattle.demand.specs.Runs.{Tok}
 use Rattle.input.specs.Input.{Tokens}
 use Rattle.demand.proofs.Events.{History, quiet, is_split, is_finish, next, Follows, Paired, Anchored, Lands, Linked}

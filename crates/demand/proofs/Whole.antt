@@ -22,7 +22,7 @@ use Rattle.demand.specs.Runs.{Call, declined, call_of, Place, step_to, run_of}
 use Rattle.demand.specs.Steps.{Step, code_of, step_from, token_in, entered, enters, leaves}
 use Rattle.demand.specs.Demand.{Covers, raws_of, Demand, Gives, seen, steps_in, Exactly, Whole}
 use Rattle.demand.proofs.Events.{is_split, Follows, Paired}
-use Rattle.demand.proofs.Pass.{own, pass, steps}
+use Rattle.demand.proofs.Pass.{own, steps}
 use Rattle.demand.proofs.Chain.{ups}
 use Rattle.demand.proofs.Demanded.{good_demand}
 use Rattle.demand.proofs.Sound.{plain, pass_length}

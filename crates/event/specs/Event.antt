@@ -1,5 +1,5 @@
 -- The event record: one event an entry of the lent list of u64. Nothing outside this module and its laws knows the bits.
-use Rattle.std.specs.Prelude.{ℕ, zero, suc, ◌+◌, ◌-◌, ◌*◌, ◌/◌, ◌%◌, Bool, true, false, List, length, get_or, ltb, leb, eqb}
+use Rattle.std.specs.Prelude.{ℕ, ◌+◌, ◌*◌, ◌/◌, ◌%◌, Bool, true, false, List, length, ltb, leb, eqb}
 use Rattle.base.specs.Base.{whether}
 use Rattle.input.specs.Input.{token_limit}
 use Rattle.event.specs.declared.State.{State}

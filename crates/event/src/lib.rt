@@ -1,4 +1,6 @@
 // The event record and the state of the machine. Nothing outside this crate knows an entry's bits.
+#![tactic(auto)]
+
 ghost use Rattle.std.specs.Prelude.{◌≡◌, Bool, true, false, ℕ, ◌+◌, ◌^◌, ◌≤◌, ◌<◌, length, get_or, set, leb};
 ghost use Rattle.event.specs.Event.{START, tag_of, rank_of, flag_of, node_of, offset_of, entry, entry_of, view, decodes, flag_by, start_entry, preceding_entry, field_entry, finish_entry, token_entry, split_entry, error_entry, named_entry, spent_entry, extended_entry, parented_entry, is_live, is_named, event_limit, capacity_of, in_range, fresh};
 

@@ -16,7 +16,7 @@ use Rattle.parser.specs.declared.Taken.{Taken}
 use Rattle.parser.specs.declared.Parted.{Parted}
 use Rattle.parser.specs.Calls.{start_of, complete_of, abandon_of, precede_of, extend_of, error_of, eat_of, bump_any_of, split_of}
 use Rattle.parser.specs.Public.{start_call, complete_call, abandon_call, precede_call, extend_call, error_call, eat_call, bump_any_call, split_call}
-use Rattle.parser.specs.Prog.{Prog, Reply, fine, bad, run, Perhaps}
+use Rattle.parser.specs.Prog.{Prog, fine, bad, run, Perhaps}
 use Rattle.parser.specs.declared.Opened.TheVariants as opened
 use Rattle.parser.specs.declared.Closed.TheVariants as closed
 use Rattle.parser.specs.declared.Moved.TheVariants as moved

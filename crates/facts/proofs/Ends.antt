@@ -12,7 +12,7 @@ use Rattle.input.specs.SyntaxKind.{STEPS_FULL}
 use Rattle.input.specs.Input.{Tokens, depth_limit, tokens_of, on_checked}
 use Rattle.input.specs.declared.Refusal.{Refusal}
 use Rattle.input.specs.declared.Checked.{Checked}
-use Rattle.input.specs.declared.Checked.TheVariants.{Fine, Refused}
+use Rattle.input.specs.declared.Checked.TheVariants.{Fine}
 use Rattle.event.specs.Event.{live, spent, named, Event, start, finish, token, split, error, view, capacity_of, fresh}
 use Rattle.event.specs.declared.State.{State}
 use Rattle.parser.specs.declared.CompletedMarker.{CompletedMarker}

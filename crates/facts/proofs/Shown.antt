@@ -1,5 +1,5 @@
 -- Every enter of an answer has its operand: an enter that was never matched would leave more nodes entered than left, against the third demand. Assumes nothing.
-use mathlib.Core.Path.{◌≡◌, refl, sym, ap, ◌∙◌}
+use mathlib.Core.Path.{◌≡◌, refl, ap, ◌∙◌}
 use mathlib.Core.Bool.{Bool, true, false}
 use mathlib.Core.List.{List, [], ◌∷◌, map}
 use mathlib.Core.Logic.{⊎_elim}
@@ -14,7 +14,7 @@ use Rattle.base.proofs.Cases.{whether_by}
 use Rattle.input.specs.SyntaxKind.{ENTER, TOKEN, LEAVE, FLOAT_SPLIT, FAULT, ENDS_IN_DOT, ERROR, PATH_TYPE}
 use Rattle.input.proofs.Laws.{within_bounds, not_both, true_or_false}
 use Rattle.demand.specs.Lists.{tally}
-use Rattle.demand.specs.Steps.{Step, enter, leave, parted, code_of, step_from, enters, leaves}
+use Rattle.demand.specs.Steps.{Step, parted, code_of, step_from, enters, leaves}
 use Rattle.operand.specs.Operand.{is_enter, leaves_of, end_of}
 use Rattle.operand.specs.Matching.{enters_of, entered, left}
 use Rattle.operand.proofs.Matching.{leaves_none, entered_more, left_more, entered_none, left_none, unmatched, end_is_a_match}

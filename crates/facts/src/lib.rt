@@ -1,1 +1,3 @@
+#![tactic(auto)]
+
 // Theorems about readings: specs/ says them, proofs/ proves them of the written rules, and there is no code.

@@ -9,7 +9,7 @@ use Rattle.input.specs.SyntaxKind.{AWAIT_KW, L_PAREN, L_BRACK, DOT, QUESTION, DO
 use Rattle.input.specs.Input.{Tokens, kind_at, present}
 use Rattle.event.specs.declared.State.{State}
 use Rattle.parser.specs.declared.CompletedMarker.{CompletedMarker}
-use Rattle.parser.specs.Prog.{give, look, then, Ran, run, Perhaps}
+use Rattle.parser.specs.Prog.{give, then, Ran, run, Perhaps}
 use Rattle.base.specs.Base.{Next}
 use Rattle.grammar.specs.Expressions.{Rule, Turned, yields, onward, name_at, is_method, is_dots, call_expr, method_call_expr, index_expr, try_expr, await_expr, field_expr, postfix_dot_expr, postfix_turn, leading_range, atom_postfix, range_or_atom}
 use Rattle.grammar.specs.Forms.{dot_form_at, form_at, dots_at, call_head, any_call, form_turn, dots_or_atom}

@@ -19,7 +19,7 @@ use Rattle.parser.specs.declared.Closed.{Closed}
 use Rattle.parser.specs.declared.Closed.TheVariants as closed
 use Rattle.parser.specs.declared.Moved.TheVariants as moved
 use Rattle.parser.specs.Calls.{complete_of, extend_of}
-use Rattle.parser.specs.Prog.{Prog, give, look, start, complete, then, turns, fine, bad, Ran, run, on_closed, Perhaps, some, none}
+use Rattle.parser.specs.Prog.{Prog, give, look, start, complete, then, fine, bad, Ran, run, on_closed, Perhaps, some, none}
 use Rattle.parser.proofs.Laws.{then_fine, then_bad, as_done}
 use Rattle.grammar.specs.declared.Reading.{Reading}
 use Rattle.grammar.specs.declared.Reading.TheVariants as reading

@@ -1,11 +1,11 @@
 -- The rules of expressions. Each takes the reading of an inner expression, `read`, whose depth is one less.
-use Rattle.std.specs.Prelude.{ℕ, zero, suc, ◌+◌, ◌*◌, Bool, true, false, List, [], ◌∷◌, length, ltb, leb, eqb}
+use Rattle.std.specs.Prelude.{ℕ, zero, suc, ◌+◌, ◌*◌, Bool, true, false, length, ltb, eqb}
 use Rattle.base.specs.Base.{whether, bound, Next, again, done}
 use Rattle.input.specs.SyntaxKind.{IDENT, FLOAT_NUMBER, AS_KW, MUT_KW, AWAIT_KW, L_PAREN, R_PAREN, L_BRACK, R_BRACK, COMMA, DOT, AMP, QUESTION, COLON2, DOT2, DOT2EQ, LITERAL, PATH_EXPR, NAME_REF, PAREN_EXPR, REF_EXPR, PREFIX_EXPR, BIN_EXPR, RANGE_EXPR, CALL_EXPR, ARG_LIST, INDEX_EXPR, METHOD_CALL_EXPR, FIELD_EXPR, AWAIT_EXPR, TRY_EXPR, EXPECTED_METHOD_NAME, EXPECTED_FIELD, EXPECTED_R_PAREN, EXPECTED_R_BRACK, EXPECTED_COMMA, OUTSIDE_CUT, TOO_DEEP, UNFIT}
 use Rattle.input.specs.Input.{Tokens, kind_at, joint_at, present}
 use Rattle.parser.specs.declared.Marker.{Marker}
 use Rattle.parser.specs.declared.CompletedMarker.{CompletedMarker}
-use Rattle.parser.specs.Prog.{Prog, give, refuse, look, start, complete, abandon, precede, extend, eat, bump_any, error, split, then, turns, Perhaps, some, none}
+use Rattle.parser.specs.Prog.{Prog, give, refuse, look, start, complete, abandon, precede, extend, eat, error, split, then, turns, Perhaps, some, none}
 use Rattle.operators.specs.declared.Op.{Op}
 use Rattle.operators.specs.TokenSet.{is_first, ends_arguments, is_prefix, is_field_name, outside_atom}
 use Rattle.operators.specs.Strength.{current_op, right_of, is_range, operand_follows}

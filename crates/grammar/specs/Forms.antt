@@ -1,6 +1,6 @@
 -- The same rules in the order in which the code asks: which postfix form, or which leading range, stands at a position is told before it is read, so that each reading has one place in the code.
 use Rattle.std.specs.Prelude.{ℕ, Bool, eqb}
-use Rattle.base.specs.Base.{whether, bound, again, done}
+use Rattle.base.specs.Base.{whether, bound, done}
 use Rattle.input.specs.SyntaxKind.{AWAIT_KW, L_PAREN, L_BRACK, DOT, QUESTION, DOT2, DOT2EQ, CALL_EXPR, INDEX_EXPR, METHOD_CALL_EXPR, FIELD_EXPR, AWAIT_EXPR, TRY_EXPR}
 use Rattle.input.specs.Input.{Tokens, kind_at, present}
 use Rattle.parser.specs.declared.Marker.{Marker}

@@ -1,4 +1,6 @@
 // The operator grammar: the crate's grammar/expressions.rs with the cut atoms, paths and types.
+#![tactic(auto)]
+
 pub mod expressions;
 
 use event::State;

@@ -1,8 +1,7 @@
 -- Tokens lent, the glued tokens, and the checks of a token list.
-use Rattle.std.specs.Prelude.{ℕ, zero, suc, ◌+◌, ◌-◌, ◌*◌, Bool, true, false, List, [], ◌∷◌, length, get_or, ltb, leb, eqb}
+use Rattle.std.specs.Prelude.{ℕ, zero, suc, ◌+◌, ◌-◌, Bool, true, false, List, [], ◌∷◌, length, get_or, ltb, leb, eqb}
 use Rattle.base.specs.Base.{whether, bound}
 use Rattle.input.specs.SyntaxKind.{EOF, IDENT, QUESTION, COLON, DOT, AMP, PIPE, PLUS, MINUS, STAR, SLASH, PERCENT, CARET, BANG, EQ, L_ANGLE, R_ANGLE, MINUSEQ, THIN_ARROW, COLON2, NEQ, DOT2, STAREQ, SLASHEQ, AMP2, AMPEQ, PERCENTEQ, CARETEQ, PLUSEQ, SHL, LTEQ, EQ2, FAT_ARROW, GTEQ, SHR, PIPEEQ, PIPE2, DOT3, DOT2EQ, SHLEQ, SHREQ, ERROR, PATH_TYPE, EXPECTED_EXPRESSION, EXPECTED_COMMA, BAD_KIND, BAD_JOINT, BAD_LENGTH}
-use Rattle.input.specs.declared.Width.{Width}
 use Rattle.input.specs.declared.Glued.{Glued}
 use Rattle.input.specs.declared.Refusal.{Refusal}
 use Rattle.input.specs.declared.Checked.{Checked}

@@ -1,4 +1,6 @@
 // The lent tokens: kinds and joint bytes, glued tokens, and the checks of a token list.
+#![tactic(auto)]
+
 pub mod syntax_kind;
 
 ghost use Rattle.std.specs.Prelude.{◌≡◌, ℕ, ◌+◌, ◌-◌, ◌≤◌, length, get_or};

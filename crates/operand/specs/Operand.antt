@@ -1,5 +1,5 @@
 -- "Show me one operand": the caller's own steps, from an enter to its matching leave.
-use Rattle.std.specs.Prelude.{ℕ, suc, ◌+◌, ◌-◌, Bool, true, false, List, length, get_or, take, drop, ltb, leb, eqb}
+use Rattle.std.specs.Prelude.{ℕ, suc, ◌+◌, ◌-◌, Bool, List, length, get_or, take, drop, ltb, leb, eqb}
 use Rattle.base.specs.Base.{whether, bound, Next, again, done, loops}
 use Rattle.input.specs.SyntaxKind.{ENTER, LEAVE, FLOAT_SPLIT, ENDS_IN_DOT, ERROR, PATH_TYPE}
 use Rattle.input.specs.Input.{within, refusal}

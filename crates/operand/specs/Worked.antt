@@ -1,5 +1,5 @@
 -- Hand-worked operands: of P9, `a.0.1` with a joint on the float, whose split leaves two nodes; of P10, `a.0. b`, whose split leaves one; of steps that are not sound.
-use Rattle.std.specs.Prelude.{ℕ, ◌+◌, ◌*◌, ◌≡◌, refl, List, [], ◌∷◌, ltb, leb, eqb, length, get_or, take, drop}
+use Rattle.std.specs.Prelude.{ℕ, ◌+◌, ◌≡◌, refl, List, [], ◌∷◌}
 use Rattle.base.specs.Base.{whether, bound, on_next, loops}
 use Rattle.input.specs.SyntaxKind.{IDENT, DOT, ENTER, TOKEN, LEAVE, FLOAT_SPLIT, WIDTH_STEP, ENDS_IN_DOT, PATH_EXPR, PATH, PATH_SEGMENT, NAME_REF, FIELD_EXPR}
 use Rattle.input.specs.Input.{refusal}

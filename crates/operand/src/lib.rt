@@ -1,4 +1,6 @@
 // One operand of a formula: the part of a step list from an enter to its matching leave.
+#![tactic(auto)]
+
 ghost use Rattle.std.specs.Prelude.{◌≡◌, ◌≤◌, ◌<◌, length, get_or};
 ghost use Rattle.operand.specs.Operand.{is_enter, leaves_of, match_of, end_of, operand_of, check_of};
 

@@ -1,7 +1,6 @@
 -- The operator at hand has the strength and the side that document 01 lists for its kind. Each operator of the match by computation, the match by cases. Assumes nothing.
 use mathlib.Core.Path.{◌≡◌, refl}
 use Prim.Native.Nat.{ℕ}
-use lib.Dec.{eqb}
 use Rattle.base.specs.Base.{whether}
 use Rattle.base.proofs.Cases.{whether_by, bound_by}
 use Rattle.input.specs.SyntaxKind.{PIPE2, PIPEEQ, PIPE, SHREQ, SHR, GTEQ, R_ANGLE, SHLEQ, SHL, LTEQ, L_ANGLE, AMP2, AMPEQ, AMP, EQ2, EOF, EQ, DOT2EQ, DOT2, NEQ, PLUSEQ, PLUS, CARETEQ, CARET, PERCENTEQ, PERCENT, SLASHEQ, SLASH, STAREQ, STAR, MINUSEQ, MINUS, AS_KW}

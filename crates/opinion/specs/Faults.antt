@@ -1,5 +1,5 @@
 -- "A supplier's program writes step lists. We want a checker of a step list against a token list, naming the first fault by step index": the ten faults, each by itself and apart from any checker, and the first of them.
-use Rattle.std.specs.Prelude.{ℕ, zero, suc, ◌+◌, Bool, true, false, not, List, [], ◌∷◌, ◌++◌, map, ltb, eqb, length, get_or, drop}
+use Rattle.std.specs.Prelude.{ℕ, zero, suc, ◌+◌, Bool, true, false, not, List, [], ◌∷◌, ◌++◌, ltb, eqb, length, get_or, drop}
 use Rattle.base.specs.Base.{pick, whether}
 use Rattle.input.specs.SyntaxKind.{FLOAT_NUMBER, AS_KW, BIN_EXPR, RANGE_EXPR, CAST_EXPR, PATH_TYPE}
 use Rattle.input.specs.Input.{Tokens, joint_at, stands, present}

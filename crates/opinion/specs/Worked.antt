@@ -1,7 +1,7 @@
 -- Hand-worked step lists: each fault alone, each two that can meet at one index, splits, operands too loose, chains; and what is accepted although no reading gives it. By computation.
-use Rattle.std.specs.Prelude.{ℕ, ◌+◌, ◌*◌, ◌≡◌, refl, List, [], ◌∷◌, ◌++◌, map, length, get_or, drop}
+use Rattle.std.specs.Prelude.{ℕ, ◌+◌, ◌*◌, ◌≡◌, refl, List, [], ◌∷◌, ◌++◌, map}
 use Rattle.base.specs.Base.{pick, whether, bound}
-use Rattle.input.specs.SyntaxKind.{IDENT, INT_NUMBER, FLOAT_NUMBER, AS_KW, DOT, MINUS, PLUS, STAR, EQ, L_ANGLE, R_ANGLE, L_BRACK, R_BRACK, EQ2, DOT2, AMP2, ENTER, TOKEN, LEAVE, FLOAT_SPLIT, FAULT, WIDTH_STEP, ENDS_IN_DOT, ERROR, LITERAL, PREFIX_EXPR, BIN_EXPR, RANGE_EXPR, INDEX_EXPR, FIELD_EXPR, CAST_EXPR, PATH_TYPE, EXPECTED_EXPRESSION}
+use Rattle.input.specs.SyntaxKind.{IDENT, INT_NUMBER, FLOAT_NUMBER, AS_KW, DOT, MINUS, PLUS, STAR, EQ, L_ANGLE, R_ANGLE, L_BRACK, R_BRACK, DOT2, ENTER, TOKEN, LEAVE, FLOAT_SPLIT, FAULT, WIDTH_STEP, ENDS_IN_DOT, ERROR, LITERAL, PREFIX_EXPR, BIN_EXPR, RANGE_EXPR, INDEX_EXPR, FIELD_EXPR, CAST_EXPR, PATH_TYPE, EXPECTED_EXPRESSION}
 use Rattle.input.specs.Input.{Tokens, lent, stands, stands_joint, glued_table, row_of, is_glued, row_parts, parts_of, width_of, follow, present, is_raw, is_kind, is_node, is_code}
 use Rattle.operators.specs.Strength.{strength_of}
 use Rattle.opinion.specs.Step.{entered_of, taken_of, left_of, failed_of, step_of, is_step, is_enter, is_error, node_in, kind_in, leaves_of, width_in, takes}

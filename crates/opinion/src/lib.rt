@@ -1,4 +1,5 @@
 // A second opinion on trees: a step list is checked against a token list, and its first fault is named.
+#![tactic(auto)]
 
 use input::Refusal;
 

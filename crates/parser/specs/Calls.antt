@@ -1,5 +1,5 @@
 -- The work of each call of the event machine, on a state and the whole lent list of events. A call checks its marker, kind or code (8), then room (4); what comes before, 3, 9, 1 and 2, is in Public.
-use Rattle.std.specs.Prelude.{ℕ, zero, suc, ◌+◌, ◌-◌, ◌*◌, Bool, true, false, List, length, get_or, set, ltb, leb, eqb}
+use Rattle.std.specs.Prelude.{ℕ, ◌+◌, ◌-◌, Bool, false, List, length, get_or, set, ltb, leb, eqb}
 use Rattle.base.specs.Base.{whether, bound}
 use Rattle.input.specs.SyntaxKind.{FLOAT_NUMBER, FIELD_EXPR, EVENTS_FULL, UNFIT}
 use Rattle.input.specs.Input.{Tokens, kind_at, joint_at, stands, present, width_of, is_kind, is_node, is_code, refusal}

@@ -1,6 +1,6 @@
 -- What a rule of the grammar does, as data: calls of the machine, one after another. A refused call ends it.
-use Rattle.std.specs.Prelude.{ℕ, zero, suc, ◌+◌, List, Bool, true, false}
-use Rattle.base.specs.Base.{Next, again, done, on_next}
+use Rattle.std.specs.Prelude.{ℕ, zero, suc, List}
+use Rattle.base.specs.Base.{Next, on_next}
 use Rattle.input.specs.Input.{Tokens, refusal}
 use Rattle.input.specs.declared.Refusal.{Refusal}
 use Rattle.event.specs.declared.State.{State}

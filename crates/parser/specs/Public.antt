@@ -1,5 +1,5 @@
 -- The calls of the machine as anyone may make them: the checks, then the work.
-use Rattle.std.specs.Prelude.{ℕ, Bool, true, false, List, length}
+use Rattle.std.specs.Prelude.{ℕ, List, length}
 use Rattle.base.specs.Base.{whether}
 use Rattle.input.specs.SyntaxKind.{UNSOUND}
 use Rattle.input.specs.Input.{Tokens, token_limit, lengths_of, bytes_of, ahead, on_checked, refusal}

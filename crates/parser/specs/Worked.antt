@@ -1,5 +1,5 @@
 -- Worked runs of the machine, by computation: what each call leaves in a short list of events, and what it answers.
-use Rattle.std.specs.Prelude.{ℕ, ◌≡◌, refl, Bool, true, false, List, [], ◌∷◌, replicate}
+use Rattle.std.specs.Prelude.{ℕ, ◌≡◌, refl, true, false, List, [], ◌∷◌, replicate}
 use Rattle.base.specs.Base.{whether, bound}
 use Rattle.input.specs.SyntaxKind.{IDENT, INT_NUMBER, FLOAT_NUMBER, DOT, EQ, DOT2, DOT2EQ, LITERAL, PATH_EXPR, FIELD_EXPR, BIN_EXPR, EXPECTED_EXPRESSION, BAD_KIND, BAD_JOINT, BAD_LENGTH, EVENTS_FULL, UNFIT, UNSOUND}
 use Rattle.input.specs.Input.{Tokens, lent, token_limit, width_limit, stands, glued_table, row_of, is_glued, row_parts, parts_of, width_of, follow, present, is_raw, is_joint, is_kind, is_node, is_code, first_off, refusal, lengths_of, bytes_of, on_checked, ahead}
@@ -7,18 +7,10 @@ use Rattle.event.specs.Event.{live, spent, named, entry_of, is_live, is_named, e
 use Rattle.event.specs.Event as event
 use Rattle.event.specs.declared.State.{State}
 use Rattle.parser.specs.Calls.{marker, completed, room_for, is_open, is_closed, is_last, start_of, complete_of, abandon_of, precede_of, extend_of, eat_of, bump_any_of, error_of, split_dot_of, split_two_of, split_of}
-use Rattle.parser.specs.Public.{range_of, looked_of, calling, start_call, complete_call, eat_call, split_call}
+use Rattle.parser.specs.Public.{range_of, looked_of, calling, eat_call}
 use Rattle.parser.specs.Prog.{Prog, give, refuse, start, complete, abandon, precede, extend, eat, bump_any, error, split, Reply, fine, bad, run, on_opened, on_closed, on_moved, on_taken, on_parted}
-use Rattle.parser.specs.declared.Marker.{Marker}
-use Rattle.parser.specs.declared.CompletedMarker.{CompletedMarker}
-use Rattle.parser.specs.declared.Opened.{Opened}
-use Rattle.parser.specs.declared.Opened.TheVariants as opened
-use Rattle.parser.specs.declared.Closed.{Closed}
-use Rattle.parser.specs.declared.Closed.TheVariants as closed
 use Rattle.parser.specs.declared.Taken.{Taken}
 use Rattle.parser.specs.declared.Taken.TheVariants as taken
-use Rattle.parser.specs.declared.Parted.{Parted}
-use Rattle.parser.specs.declared.Parted.TheVariants as parted
 
 -- a program on n fresh entries, with all that it rests on opened
 unfoldable pub ran : {A : Type 0} → Tokens → Prog A → ℕ → Reply A × List ℕ

@@ -1,4 +1,6 @@
 // The event machine: each call on a state by value and a lent list of events. A call here checks what it is lent, and then does its work in `inner`.
+#![tactic(auto)]
+
 pub mod inner;
 
 ghost use Rattle.std.specs.Prelude.{◌≡◌};

@@ -3,12 +3,12 @@ use mathlib.Core.Path.{◌≡◌, refl, sym, ap, ◌∙◌}
 use mathlib.Core.Bool.{Bool, true, false}
 use mathlib.Core.List.{List}
 use Prim.Native.Nat.{ℕ, ◌+◌, ◌-◌, ◌*◌, ◌<◌, ◌≤◌}
-use lib.Dec.{eqb, ltb}
+use lib.Dec.{eqb}
 use lib.ListN.{length, get_or, set, replicate, length-replicate, get_or-replicate}
 use lib.Seq.{ext_get_or, get_or-set_same, get_or-set_other}
 use native.Mathlib.Omega.{arith}
-use borrow.Author.Tests.{lt-ltb, le-ltb, le-leb, lt-leb, eq-eqb, ne_eqb, eqb-true, eqb-false}
-use Rattle.base.specs.Base.{whether, bound, called, Next, again, done}
+use borrow.Author.Tests.{lt-ltb, le-ltb, le-leb, lt-leb, ne_eqb, eqb-true, eqb-false}
+use Rattle.base.specs.Base.{whether, bound, called, again, done}
 use Rattle.base.proofs.Laws.{tests, whether_eq, whether_ne}
 use Rattle.input.specs.SyntaxKind.{ENTER, TOKEN, FLOAT_SPLIT, FAULT, WIDTH_STEP, STEPS_FULL, UNSOUND}
 use Rattle.event.specs.Event.{START, FINISH, TOKEN_TAG, SPLIT_TAG, ERROR_TAG, tag_of, rank_of, flag_of, node_of, decodes, fresh}

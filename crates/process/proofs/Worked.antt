@@ -8,8 +8,6 @@ use Rattle.base.specs.Base.{whether, bound, called, on_next, loops}
 use Rattle.input.specs.SyntaxKind.{IDENT, INT_NUMBER, DOT, BANG, LITERAL, PATH_EXPR, PATH, PATH_SEGMENT, NAME_REF, PREFIX_EXPR, FIELD_EXPR, ENTER, TOKEN, LEAVE, FLOAT_SPLIT, WIDTH_STEP}
 use Rattle.input.specs.Input.{token_limit}
 use Rattle.event.specs.Event.{status_of, view, decodes, flag_by, start_entry, preceding_entry, field_entry, finish_entry, token_entry, split_entry, extended_entry, parented_entry, event_limit, capacity_of, in_range, fresh}
-use Rattle.event.specs.declared.State.{State}
-use Rattle.process.specs.declared.Processed.{Processed}
 use Rattle.process.specs.declared.Processed.TheVariants.{Steps}
 use Rattle.process.specs.Process.{forward_of, lands_at, paired_at, sound_at, sound_turn, sound_events, sound_of, has_name, steps_at, count_turn, count_of, chain_turn, chain_of, visited, enter_turn, enter_of, step_of, process_turn, write_of, process_of}
 

@@ -1,5 +1,5 @@
 -- The pass from events to steps, over the lent lists.
-use Rattle.std.specs.Prelude.{ℕ, zero, suc, ◌+◌, ◌-◌, ◌*◌, Bool, true, false, List, length, get_or, set, replicate, ltb, leb, eqb}
+use Rattle.std.specs.Prelude.{ℕ, suc, ◌+◌, ◌-◌, ◌*◌, Bool, true, false, List, length, get_or, set, replicate, ltb, leb, eqb}
 use Rattle.base.specs.Base.{whether, called, bound, Next, again, done, loops}
 use Rattle.input.specs.SyntaxKind.{ENTER, TOKEN, LEAVE, FLOAT_SPLIT, FAULT, WIDTH_STEP, STEPS_FULL, UNSOUND}
 use Rattle.input.specs.Input.{token_limit, refusal}

@@ -1,4 +1,6 @@
 // The pass from events to steps, in place.
+#![tactic(auto)]
+
 ghost use Rattle.std.specs.Prelude.{◌≡◌, Bool, true, false, ℕ, ◌+◌, ◌-◌, ◌*◌, ◌^◌, ◌≤◌, ◌<◌, length, set, replicate};
 ghost use Rattle.base.specs.Base.{again};
 ghost use Rattle.event.specs.Event.{event_limit};

@@ -1,20 +1,19 @@
 -- The laws by which `search` follows the reader's rules along the answers of the grammar and of the pass; a refusal of the pass leaves both
 -- lists as they are. Assumes nothing.
 use Prim.Native.Nat.{ℕ}
-use mathlib.Core.Path.{◌≡◌, refl, sym, ap, ◌∙◌}
+use mathlib.Core.Path.{◌≡◌, sym, ap, ◌∙◌}
 use mathlib.Core.Bool.{Bool, true, false}
 use mathlib.Core.List.{List}
 use native.Mathlib.Omega.{arith}
 use lib.Dec.{leb}
 use lib.ListN.{length, replicate}
 use Rattle.base.specs.Base.{whether, called}
-use Rattle.base.proofs.Laws.{tests}
 use Rattle.input.specs.Input.{Tokens, depth_limit}
 use Rattle.input.specs.declared.Refusal.{Refusal}
 use Rattle.event.specs.Event.{fresh}
 use Rattle.event.specs.declared.State.{State}
 use Rattle.parser.specs.declared.CompletedMarker.{CompletedMarker}
-use Rattle.parser.specs.Prog.{Reply, fine, bad, Ran, run, Perhaps, some, none}
+use Rattle.parser.specs.Prog.{Ran, run, Perhaps}
 use Rattle.process.specs.Process.{process_of, sound_of, count_of, write_of}
 use Rattle.process.specs.declared.Processed.{Processed}
 use Rattle.process.specs.declared.Processed.TheVariants as processed

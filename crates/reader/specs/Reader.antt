@@ -3,9 +3,8 @@ use Rattle.std.specs.Prelude.{ℕ, List, length, replicate}
 use Rattle.input.specs.Input.{Tokens, depth_limit, tokens_of, on_checked}
 use Rattle.input.specs.declared.Refusal.{Refusal}
 use Rattle.event.specs.Event.{fresh}
-use Rattle.event.specs.declared.State.{State}
 use Rattle.parser.specs.declared.CompletedMarker.{CompletedMarker}
-use Rattle.parser.specs.Prog.{Reply, fine, bad, Ran, run, Perhaps}
+use Rattle.parser.specs.Prog.{fine, bad, Ran, run, Perhaps}
 use Rattle.process.specs.Process.{process_of}
 use Rattle.process.specs.declared.Processed.{Processed}
 use Rattle.process.specs.declared.Processed.TheVariants as processed

@@ -2,7 +2,7 @@
 use Rattle.std.specs.Prelude.{ℕ, ◌+◌, ◌*◌, ◌≡◌, refl, List, [], ◌∷◌, ◌++◌, length, replicate, take}
 use Rattle.base.specs.Base.{whether, called, bound, on_next, loops}
 use Rattle.input.specs.SyntaxKind.{IDENT, INT_NUMBER, FLOAT_NUMBER, AS_KW, L_BRACK, DOT, AMP, PLUS, MINUS, STAR, BANG, EQ, L_ANGLE, DOT2, ERROR, LITERAL, PATH_EXPR, PATH, PATH_SEGMENT, NAME_REF, REF_EXPR, PREFIX_EXPR, BIN_EXPR, RANGE_EXPR, INDEX_EXPR, FIELD_EXPR, CAST_EXPR, PATH_TYPE, ENTER, TOKEN, LEAVE, FLOAT_SPLIT, FAULT, WIDTH_STEP, ENDS_IN_DOT, EXPECTED_EXPRESSION, EXPECTED_R_BRACK}
-use Rattle.input.specs.Input.{Tokens, lent, token_limit, depth_limit, width_limit, stands, glued_table, row_of, is_glued, row_parts, parts_of, width_of, follow, present, is_raw, is_joint, is_kind, is_node, is_code, first_off, lengths_of, bytes_of, on_checked, tokens_of}
+use Rattle.input.specs.Input.{lent, token_limit, depth_limit, width_limit, stands, glued_table, row_of, is_glued, row_parts, parts_of, width_of, follow, present, is_raw, is_joint, is_kind, is_node, is_code, first_off, lengths_of, bytes_of, on_checked, tokens_of}
 use Rattle.event.specs.Event.{status_of, view, decodes, is_live, is_named, event_limit, capacity_of, in_range}
 use Rattle.parser.specs.Calls.{room_for, is_open, is_closed, start_of, complete_of, is_last, abandon_of, precede_of, extend_of, eat_of, bump_any_of, error_of, split_dot_of, split_two_of, split_of}
 use Rattle.parser.specs.Prog.{then, turns, on_opened, on_closed, on_moved, on_taken, on_parted, run}

@@ -1,4 +1,6 @@
 // The public reader: a token list to tree steps.
+#![tactic(auto)]
+
 ghost use Rattle.std.specs.Prelude.{◌≡◌};
 ghost use Rattle.input.specs.Input.{lent};
 ghost use Rattle.process.specs.Process.{process_of};

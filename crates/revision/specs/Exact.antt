@@ -1,5 +1,5 @@
 -- What "the exact differences" means, index by index: when `equal` is printed, which indexes print a line, and what the rest is.
-use Rattle.std.specs.Prelude.{ℕ, suc, ◌+◌, ◌≡◌, true, List, ◌++◌, ◌⊎◌, get_or, take}
+use Rattle.std.specs.Prelude.{ℕ, suc, ◌≡◌, true, List, ◌++◌, ◌⊎◌, get_or, take}
 use Rattle.revision.specs.Revision.{differ_text, differs_text, common_of, rest_of, same_of}
 
 -- `equal` is printed for equal lists alone

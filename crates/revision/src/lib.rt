@@ -1,4 +1,6 @@
 // How the steps of two formula revisions differ, and the text that says so.
+#![tactic(auto)]
+
 ghost use Rattle.std.specs.Prelude.{◌≡◌, ◌+◌, ◌<◌, ◌^◌, length};
 ghost use Rattle.answers.specs.Text.{Put};
 ghost use Rattle.revision.specs.Revision.{pair_text, differ_text, extra_text, step_text, differs_text, extras_text, common_of, rest_of, name_of, same_of, compared_text, second_text, revisions_text};

@@ -1,5 +1,7 @@
 // The stored form of a token list. "Tag byte, two-byte length, low byte first, payload: tag 1 kinds, then tag 2 joints,
 // each once, nothing after." Nothing is copied: an answer says where the payloads stand in the caller's bytes.
+#![tactic(auto)]
+
 ghost use Rattle.std.specs.Prelude.{◌≡◌};
 ghost use Rattle.stored.specs.Stored.{length_of, head_of, section_of, first_of, stored_of, long_of, limited_of, part_of, kinds_of, joints_of};
 

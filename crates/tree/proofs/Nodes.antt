@@ -11,7 +11,7 @@ use Rattle.input.specs.SyntaxKind.{FLOAT_NUMBER, UNFIT}
 use Rattle.input.specs.Input.{Tokens, kind_at, joint_at, stands, present, width_of, is_raw}
 use Rattle.event.specs.Event as event
 use Rattle.event.specs.Event.{Event, token, live, named}
-use Rattle.parser.specs.Prog.{Prog, give, refuse, start, complete, precede, eat, then}
+use Rattle.parser.specs.Prog.{Prog, give, refuse, complete, precede, eat, then}
 use Rattle.parser.specs.declared.Marker.{Marker}
 use Rattle.parser.specs.declared.CompletedMarker.{CompletedMarker}
 use Rattle.atoms.specs.Atom.{bump, begin, lead, expect, closing, leaf}

@@ -12,7 +12,7 @@ use Rattle.input.specs.SyntaxKind.{IDENT, COLON2, PATH, PATH_SEGMENT, NAME_REF, 
 use Rattle.input.specs.Input.{Tokens, kind_at, width_of, parts_of, is_glued, row_of, row_parts, glued_table, is_raw}
 use Rattle.event.specs.Event as event
 use Rattle.event.specs.Event.{Event, live}
-use Rattle.parser.specs.Prog.{Prog, give, start, complete, then}
+use Rattle.parser.specs.Prog.{Prog, give, complete, then}
 use Rattle.parser.specs.declared.Marker.{Marker}
 use Rattle.parser.specs.declared.CompletedMarker.{CompletedMarker}
 use Rattle.atoms.specs.Atom.{Part, lead, leaf, begin_error, err_and_bump, err_recover, turning, segment, first_path, qualified, path_turn, path_rest, path, no_macro, plain_path, path_node, after_type, path_type, cast_type}

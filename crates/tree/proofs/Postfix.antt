@@ -13,7 +13,7 @@ use Rattle.input.specs.SyntaxKind.{IDENT, INT_NUMBER, AWAIT_KW, L_PAREN, R_PAREN
 use Rattle.input.specs.Input.{Tokens, kind_at, present, width_of, parts_of, is_glued, is_raw}
 use Rattle.event.specs.Event as event
 use Rattle.event.specs.Event.{Event, live}
-use Rattle.parser.specs.Prog.{Prog, give, complete, split, then}
+use Rattle.parser.specs.Prog.{Prog, give, complete, then}
 use Rattle.parser.specs.declared.Marker.{Marker}
 use Rattle.parser.specs.declared.CompletedMarker.{CompletedMarker}
 use Rattle.parser.proofs.Moves.{present_within}

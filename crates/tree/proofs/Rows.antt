@@ -8,7 +8,7 @@ use lib.Dec.{eqb, leb}
 use borrow.Author.Tests.{eqb-true, leb-true, leb-false}
 use Rattle.base.specs.Base.{whether}
 use Rattle.input.specs.SyntaxKind.{AS_KW, L_PAREN, L_BRACK, DOT, QUESTION, COLON2}
-use Rattle.tree.specs.Tree.{Tree, paren, binary}
+use Rattle.tree.specs.Tree.{Tree, binary}
 use Rattle.tree.specs.Table.{Associativity, unsaid, leftToRight, rightToLeft, requireParentheses, Row, table, holds, has_operator, place_in, place, side_in, side}
 use Rattle.tree.specs.Grouped.{rank, LeftFits, RightFits, FitsLeft, FitsRight, IsBinary}
 use Rattle.tree.proofs.Operators.{floor, floor_at, floor_high, place_as}

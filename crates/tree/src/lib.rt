@@ -1,1 +1,3 @@
+#![tactic(auto)]
+
 // Theorems only: what the trees of the reader mean. See specs/ and proofs/.

@@ -1,6 +1,5 @@
 -- `capacity` is `capacity_of`: each branch rewrites the test that it took. Assumes nothing.
 use native.Mathlib.Omega.{arith}
-use mathlib.Core.Path.{sym}
 use borrow.Author.Tests.{lt-ltb, le-ltb}
 use borrow.Author.Rules.{rules}
 use Rattle.base.specs.Base.{whether}

@@ -5,11 +5,6 @@ use Rattle.operand.specs.Operand.{end_of}
 use Rattle.operand.proofs.Laws.{end_entered, end_other, past_the_end}
 use Rattle.operand.proofs.end_of.Statement.{statement}
 use Rattle.operand.proofs.end_of.Tie as tie
-use Rattle.operand.proofs.end_of.Reads as reads
-use Rattle.operand.proofs.end_of.Lts as lts
-use Rattle.operand.proofs.is_enter.Reads as is-enter-reads
-use Rattle.operand.proofs.matched.Reads as matched-reads
-use Rattle.operand.proofs.step_at.Reads as step-at-reads
 
 pub end_of_spec : {M : Type 1} → statement M
 unfolding end_of

@@ -8,11 +8,6 @@ use Rattle.operand.specs.Operand.{match_turn, match_of}
 use Rattle.operand.proofs.Laws.{match_enter, match_done, match_on, match_end}
 use Rattle.operand.proofs.matched.Statement.{statement}
 use Rattle.operand.proofs.matched.Tie as tie
-use Rattle.operand.proofs.matched.Reads as reads
-use Rattle.operand.proofs.matched.Lts as lts
-use Rattle.operand.proofs.is_enter.Reads as is-enter-reads
-use Rattle.operand.proofs.leaves_of.Reads as leaves-of-reads
-use Rattle.operand.proofs.step_at.Reads as step-at-reads
 
 abbrev invariant-loop-i : tie.invariant-loop-i
 invariant-loop-i steps at i₀ open₀ i «open» = (1 ≤ «open») × («open» ≤ i) × (i ≤ length steps) × Rest (match_turn steps) 0 (λ z. length steps - z.0) (match_of steps at) (i, «open»)

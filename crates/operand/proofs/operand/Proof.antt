@@ -3,9 +3,6 @@ use borrow.Author.Rules.{rules}
 use Rattle.operand.proofs.Laws.{part_some, part_none}
 use Rattle.operand.proofs.operand.Statement.{statement}
 use Rattle.operand.proofs.operand.Tie as tie
-use Rattle.operand.proofs.operand.Reads as reads
-use Rattle.operand.proofs.operand.Lts as lts
-use Rattle.operand.proofs.end_of.Reads as end-of-reads
 
 pub operand_spec : {M : Type 1} → statement M
 operand_spec =

@@ -3,13 +3,6 @@ use Rattle.revision.proofs.Laws.{compared_same, compared_other}
 use borrow.Author.Rules.{rules}
 use Rattle.revision.proofs.put_compared.Statement.{statement}
 use Rattle.revision.proofs.put_compared.Tie as tie
-use Rattle.revision.proofs.put_compared.Reads as reads
-use Rattle.revision.proofs.put_compared.Lts as lts
-use Rattle.answers.proofs.word.Reads as word-reads
-use Rattle.revision.proofs.common.Reads as common-reads
-use Rattle.revision.proofs.put_differs.Reads as put-differs-reads
-use Rattle.revision.proofs.put_rest.Reads as put-rest-reads
-use Rattle.revision.proofs.same.Reads as same_Reads
 
 same-requires : tie.Need-same-requires
 same-requires c κs = search rules

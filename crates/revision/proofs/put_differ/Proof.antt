@@ -4,11 +4,6 @@ use Rattle.revision.specs.Revision.{differ_text}
 use borrow.Author.Rules.{rules}
 use Rattle.revision.proofs.put_differ.Statement.{statement}
 use Rattle.revision.proofs.put_differ.Tie as tie
-use Rattle.revision.proofs.put_differ.Reads as reads
-use Rattle.revision.proofs.put_differ.Lts as lts
-use Rattle.answers.proofs.decimal.Reads as decimal-reads
-use Rattle.answers.proofs.word.Reads as word-reads
-use Rattle.revision.proofs.put_pair.Reads as put-pair-reads
 
 decimal-requires : tie.Need-decimal-next-requires
 decimal-requires c κs = search rules

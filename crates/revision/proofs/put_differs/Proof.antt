@@ -9,9 +9,6 @@ use Rattle.revision.proofs.Laws.{differs_none, differs_more, differs_all}
 use borrow.Author.Rules.{rules}
 use Rattle.revision.proofs.put_differs.Statement.{statement}
 use Rattle.revision.proofs.put_differs.Tie as tie
-use Rattle.revision.proofs.put_differs.Reads as reads
-use Rattle.revision.proofs.put_differs.Lts as lts
-use Rattle.revision.proofs.put_step.Reads as put-step-reads
 
 abbrev invariant-loop-i : tie.invariant-loop-i
 invariant-loop-i out₀ at first second n end₀ i₀ out end i = (length out ≡ length out₀) × (i ≤ n) × Put out₀ at (differs_text first second i) end out

@@ -4,10 +4,6 @@ use Rattle.revision.specs.Revision.{extra_text}
 use borrow.Author.Rules.{rules}
 use Rattle.revision.proofs.put_extra.Statement.{statement}
 use Rattle.revision.proofs.put_extra.Tie as tie
-use Rattle.revision.proofs.put_extra.Reads as reads
-use Rattle.revision.proofs.put_extra.Lts as lts
-use Rattle.answers.proofs.word.Reads as word-reads
-use Rattle.revision.proofs.put_pair.Reads as put-pair-reads
 
 word-requires : tie.Need-word-next-requires
 word-requires c κs = search rules

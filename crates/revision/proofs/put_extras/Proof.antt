@@ -9,10 +9,6 @@ use Rattle.revision.proofs.Laws.{extras_none, extras_more, extras_all}
 use borrow.Author.Rules.{rules}
 use Rattle.revision.proofs.put_extras.Statement.{statement}
 use Rattle.revision.proofs.put_extras.Tie as tie
-use Rattle.revision.proofs.put_extras.Reads as reads
-use Rattle.revision.proofs.put_extras.Lts as lts
-use Rattle.revision.proofs.put_extra.Reads as put-extra-reads
-use Rattle.operand.proofs.step_at.Reads as step-at-reads
 
 abbrev invariant-loop-i : tie.invariant-loop-i
 invariant-loop-i out₀ at name from rest end₀ i₀ out end i = (length out ≡ length out₀) × (i ≤ length rest) × Put out₀ at (extras_text name from rest i) end out

@@ -4,11 +4,6 @@ use Rattle.revision.specs.Revision.{pair_text}
 use borrow.Author.Rules.{rules}
 use Rattle.revision.proofs.put_pair.Statement.{statement}
 use Rattle.revision.proofs.put_pair.Tie as tie
-use Rattle.revision.proofs.put_pair.Reads as reads
-use Rattle.revision.proofs.put_pair.Lts as lts
-use Rattle.answers.proofs.decimal.Reads as decimal-reads
-use Rattle.answers.proofs.line.Reads as line_reads_lem
-use Rattle.answers.proofs.word.Reads as word-reads
 
 decimal-requires : tie.Need-decimal-next-requires
 decimal-requires c κs = search rules

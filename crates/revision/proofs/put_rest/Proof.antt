@@ -3,11 +3,6 @@ use Rattle.revision.proofs.Laws.{rest_fits, extra_second, extra_first}
 use borrow.Author.Rules.{rules}
 use Rattle.revision.proofs.put_rest.Statement.{statement}
 use Rattle.revision.proofs.put_rest.Tie as tie
-use Rattle.revision.proofs.put_rest.Reads as reads
-use Rattle.revision.proofs.put_rest.Lts as lts
-use Rattle.revision.proofs.common.Reads as common-reads
-use Rattle.revision.proofs.put_extras.Reads as put-extras-reads
-use Rattle.revision.proofs.rest.Reads as rest-reads
 
 common-requires : tie.Need-common-n-requires
 common-requires c κs = search rules

@@ -3,11 +3,6 @@ use Rattle.revision.proofs.Laws.{first_read, first_refused}
 use borrow.Author.Rules.{rules}
 use Rattle.revision.proofs.put_revisions.Statement.{statement}
 use Rattle.revision.proofs.put_revisions.Tie as tie
-use Rattle.revision.proofs.put_revisions.Reads as reads
-use Rattle.revision.proofs.put_revisions.Lts as lts
-use Rattle.answers.proofs.given.Reads as given-reads
-use Rattle.answers.proofs.put_refusal.Reads as put-refusal-reads
-use Rattle.revision.proofs.put_second.Reads as put-second-reads
 
 enum-known-answer : tie.Need-enum_known-answer
 enum-known-answer c = search rules

@@ -3,11 +3,6 @@ use Rattle.revision.proofs.Laws.{second_read, second_refused}
 use borrow.Author.Rules.{rules}
 use Rattle.revision.proofs.put_second.Statement.{statement}
 use Rattle.revision.proofs.put_second.Tie as tie
-use Rattle.revision.proofs.put_second.Reads as reads
-use Rattle.revision.proofs.put_second.Lts as lts
-use Rattle.answers.proofs.given.Reads as given-reads
-use Rattle.answers.proofs.put_refusal.Reads as put-refusal-reads
-use Rattle.revision.proofs.put_compared.Reads as put-compared-reads
 
 enum-known-answer : tie.Need-enum_known-answer
 enum-known-answer c = search rules

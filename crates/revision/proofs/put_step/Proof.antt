@@ -3,10 +3,6 @@ use Rattle.revision.proofs.Laws.{put_same, put_other}
 use borrow.Author.Rules.{rules}
 use Rattle.revision.proofs.put_step.Statement.{statement}
 use Rattle.revision.proofs.put_step.Tie as tie
-use Rattle.revision.proofs.put_step.Reads as reads
-use Rattle.revision.proofs.put_step.Lts as lts
-use Rattle.revision.proofs.put_differ.Reads as put-differ-reads
-use Rattle.operand.proofs.step_at.Reads as step-at-reads
 
 step-at-requires : tie.Need-step_at-x-requires
 step-at-requires c κs = search rules

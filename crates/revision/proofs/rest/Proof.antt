@@ -3,8 +3,6 @@ use Rattle.revision.proofs.Laws.{rest_second, rest_first}
 use borrow.Author.Rules.{rules}
 use Rattle.revision.proofs.rest.Statement.{statement}
 use Rattle.revision.proofs.rest.Tie as tie
-use Rattle.revision.proofs.rest.Reads as reads
-use Rattle.revision.proofs.rest.Lts as lts
 
 mul-result : tie.Need-offset_bounds-second-first
 mul-result c = search rules

@@ -1,6 +1,6 @@
 -- `same` meets its rule: the steps up to `i` are the same. Assumes nothing.
 use Prim.Native.Nat.{◌≤◌, ◌-◌}
-use mathlib.Core.Path.{◌≡◌, refl}
+use mathlib.Core.Path.{◌≡◌}
 use native.Mathlib.Omega.{arith}
 use lib.ListN.{length}
 use mathlib.Core.Bool.{true}
@@ -9,9 +9,6 @@ use Rattle.revision.proofs.Laws.{same_none, same_more, not_same, same_all, same_
 use borrow.Author.Rules.{rules}
 use Rattle.revision.proofs.same.Statement.{statement}
 use Rattle.revision.proofs.same.Tie as tie
-use Rattle.revision.proofs.same.Reads as reads
-use Rattle.revision.proofs.same.Lts as lts
-use Rattle.operand.proofs.step_at.Reads as step-at-reads
 
 abbrev invariant-loop-i : tie.invariant-loop-i
 invariant-loop-i first second i₀ i = (length first ≡ length second) × (i ≤ length first) × (same_up_to first second i ≡ true)

@@ -4,10 +4,6 @@ use Rattle.atoms.specs.Atom.{begin}
 use borrow.Author.Rules.{rules}
 use Rattle.atoms.proofs.atom.begin.Statement.{statement}
 use Rattle.atoms.proofs.atom.begin.Tie as tie
-use Rattle.atoms.proofs.atom.begin.Reads as reads
-use Rattle.atoms.proofs.atom.begin.Lts as lts
-use Rattle.atoms.proofs.atom.bump.Reads as bump-reads
-use Rattle.parser.proofs.inner.start.Reads as start-reads
 
 pub begin_spec : {M : Type 1} → statement M
 unfolding begin

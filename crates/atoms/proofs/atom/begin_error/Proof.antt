@@ -4,10 +4,6 @@ use Rattle.atoms.specs.Atom.{begin_error}
 use borrow.Author.Rules.{rules}
 use Rattle.atoms.proofs.atom.begin_error.Statement.{statement}
 use Rattle.atoms.proofs.atom.begin_error.Tie as tie
-use Rattle.atoms.proofs.atom.begin_error.Reads as reads
-use Rattle.atoms.proofs.atom.begin_error.Lts as lts
-use Rattle.parser.proofs.inner.error.Reads as error-reads
-use Rattle.parser.proofs.inner.start.Reads as start-reads
 
 pub begin_error_spec : {M : Type 1} → statement M
 unfolding begin_error

@@ -4,9 +4,6 @@ use Rattle.atoms.specs.Atom.{bump}
 use borrow.Author.Rules.{rules}
 use Rattle.atoms.proofs.atom.bump.Statement.{statement}
 use Rattle.atoms.proofs.atom.bump.Tie as tie
-use Rattle.atoms.proofs.atom.bump.Reads as reads
-use Rattle.atoms.proofs.atom.bump.Lts as lts
-use Rattle.parser.proofs.inner.eat.Reads as eat-reads
 
 pub bump_spec : {M : Type 1} → statement M
 unfolding bump

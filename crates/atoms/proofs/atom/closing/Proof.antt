@@ -4,10 +4,6 @@ use Rattle.atoms.specs.Atom.{closing}
 use borrow.Author.Rules.{rules}
 use Rattle.atoms.proofs.atom.closing.Statement.{statement}
 use Rattle.atoms.proofs.atom.closing.Tie as tie
-use Rattle.atoms.proofs.atom.closing.Reads as reads
-use Rattle.atoms.proofs.atom.closing.Lts as lts
-use Rattle.atoms.proofs.atom.expect.Reads as expect-reads
-use Rattle.parser.proofs.inner.complete.Reads as complete-reads
 
 pub closing_spec : {M : Type 1} → statement M
 unfolding closing

@@ -3,8 +3,6 @@ use Rattle.atoms.specs.Views.{ended_of}
 use borrow.Author.Rules.{rules}
 use Rattle.atoms.proofs.atom.ended.Statement.{statement}
 use Rattle.atoms.proofs.atom.ended.Tie as tie
-use Rattle.atoms.proofs.atom.ended.Reads as reads
-use Rattle.atoms.proofs.atom.ended.Lts as lts
 
 pub ended_spec : {M : Type 1} → statement M
 unfolding ended_of

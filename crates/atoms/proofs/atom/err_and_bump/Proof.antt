@@ -4,12 +4,6 @@ use Rattle.atoms.specs.Atom.{err_and_bump}
 use borrow.Author.Rules.{rules}
 use Rattle.atoms.proofs.atom.err_and_bump.Statement.{statement}
 use Rattle.atoms.proofs.atom.err_and_bump.Tie as tie
-use Rattle.atoms.proofs.atom.err_and_bump.Reads as reads
-use Rattle.atoms.proofs.atom.err_and_bump.Lts as lts
-use Rattle.atoms.proofs.atom.begin_error.Reads as begin-error-reads
-use Rattle.atoms.proofs.atom.ended.Reads as ended-reads
-use Rattle.parser.proofs.inner.bump_any.Reads as bump-any-reads
-use Rattle.parser.proofs.inner.complete.Reads as complete-reads
 
 pub err_and_bump_spec : {M : Type 1} → statement M
 unfolding err_and_bump

@@ -4,12 +4,6 @@ use Rattle.atoms.specs.Atom.{err_recover}
 use borrow.Author.Rules.{rules}
 use Rattle.atoms.proofs.atom.err_recover.Statement.{statement}
 use Rattle.atoms.proofs.atom.err_recover.Tie as tie
-use Rattle.atoms.proofs.atom.err_recover.Reads as reads
-use Rattle.atoms.proofs.atom.err_recover.Lts as lts
-use Rattle.atoms.proofs.atom.err_and_bump.Reads as err-and-bump-reads
-use Rattle.operators.proofs.token_set.is_closing.Reads as is-closing-reads
-use Rattle.input.proofs.kind_at.Reads as kind-at-reads
-use Rattle.parser.proofs.inner.error.Reads as error-reads
 
 pub err_recover_spec : {M : Type 1} → statement M
 unfolding err_recover

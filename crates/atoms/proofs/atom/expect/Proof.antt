@@ -4,10 +4,6 @@ use Rattle.atoms.specs.Atom.{expect}
 use borrow.Author.Rules.{rules}
 use Rattle.atoms.proofs.atom.expect.Statement.{statement}
 use Rattle.atoms.proofs.atom.expect.Tie as tie
-use Rattle.atoms.proofs.atom.expect.Reads as reads
-use Rattle.atoms.proofs.atom.expect.Lts as lts
-use Rattle.parser.proofs.inner.eat.Reads as eat-reads
-use Rattle.parser.proofs.inner.error.Reads as error-reads
 
 pub expect_spec : {M : Type 1} → statement M
 unfolding expect

@@ -4,10 +4,6 @@ use Rattle.atoms.specs.Atom.{lead}
 use borrow.Author.Rules.{rules}
 use Rattle.atoms.proofs.atom.lead.Statement.{statement}
 use Rattle.atoms.proofs.atom.lead.Tie as tie
-use Rattle.atoms.proofs.atom.lead.Reads as reads
-use Rattle.atoms.proofs.atom.lead.Lts as lts
-use Rattle.atoms.proofs.atom.bump.Reads as bump-reads
-use Rattle.parser.proofs.inner.precede.Reads as precede-reads
 
 pub lead_spec : {M : Type 1} → statement M
 unfolding lead

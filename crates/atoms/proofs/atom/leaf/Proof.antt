@@ -4,11 +4,6 @@ use Rattle.atoms.specs.Atom.{leaf}
 use borrow.Author.Rules.{rules}
 use Rattle.atoms.proofs.atom.leaf.Statement.{statement}
 use Rattle.atoms.proofs.atom.leaf.Tie as tie
-use Rattle.atoms.proofs.atom.leaf.Reads as reads
-use Rattle.atoms.proofs.atom.leaf.Lts as lts
-use Rattle.parser.proofs.inner.bump_any.Reads as bump-any-reads
-use Rattle.parser.proofs.inner.complete.Reads as complete-reads
-use Rattle.parser.proofs.inner.start.Reads as start-reads
 
 pub leaf_spec : {M : Type 1} → statement M
 unfolding leaf

@@ -3,8 +3,6 @@ use Rattle.atoms.specs.Views.{turn_of}
 use borrow.Author.Rules.{rules}
 use Rattle.atoms.proofs.atom.turn_of.Statement.{statement}
 use Rattle.atoms.proofs.atom.turn_of.Tie as tie
-use Rattle.atoms.proofs.atom.turn_of.Reads as reads
-use Rattle.atoms.proofs.atom.turn_of.Lts as lts
 
 pub turn_of_spec : {M : Type 1} → statement M
 unfolding turn_of

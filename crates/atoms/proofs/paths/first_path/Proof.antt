@@ -4,11 +4,6 @@ use Rattle.atoms.specs.Atom.{first_path}
 use borrow.Author.Rules.{rules}
 use Rattle.atoms.proofs.paths.first_path.Statement.{statement}
 use Rattle.atoms.proofs.paths.first_path.Tie as tie
-use Rattle.atoms.proofs.paths.first_path.Reads as reads
-use Rattle.atoms.proofs.paths.first_path.Lts as lts
-use Rattle.atoms.proofs.paths.segment.Reads as segment-Reads
-use Rattle.parser.proofs.inner.complete.Reads as complete-reads
-use Rattle.parser.proofs.inner.start.Reads as start-reads
 
 pub first_path_spec : {M : Type 1} → statement M
 unfolding first_path

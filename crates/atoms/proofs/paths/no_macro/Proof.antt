@@ -4,10 +4,6 @@ use Rattle.atoms.specs.Atom.{no_macro}
 use borrow.Author.Rules.{rules}
 use Rattle.atoms.proofs.paths.no_macro.Statement.{statement}
 use Rattle.atoms.proofs.paths.no_macro.Tie as tie
-use Rattle.atoms.proofs.paths.no_macro.Reads as reads
-use Rattle.atoms.proofs.paths.no_macro.Lts as lts
-use Rattle.input.proofs.kind_at.Reads as kind-at-reads
-use Rattle.input.proofs.nth_at.Reads as nth-at-reads
 
 pub no_macro_spec : {M : Type 1} → statement M
 unfolding no_macro

@@ -4,10 +4,6 @@ use Rattle.atoms.specs.Atom.{path}
 use borrow.Author.Rules.{rules}
 use Rattle.atoms.proofs.paths.path.Statement.{statement}
 use Rattle.atoms.proofs.paths.path.Tie as tie
-use Rattle.atoms.proofs.paths.path.Reads as reads
-use Rattle.atoms.proofs.paths.path.Lts as lts
-use Rattle.atoms.proofs.paths.first_path.Reads as first-path-reads
-use Rattle.atoms.proofs.paths.path_rest.Reads as path-rest-reads
 
 pub path_spec : {M : Type 1} → statement M
 unfolding path

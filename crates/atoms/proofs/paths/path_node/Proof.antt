@@ -4,11 +4,6 @@ use Rattle.atoms.specs.Atom.{path_node}
 use borrow.Author.Rules.{rules}
 use Rattle.atoms.proofs.paths.path_node.Statement.{statement}
 use Rattle.atoms.proofs.paths.path_node.Tie as tie
-use Rattle.atoms.proofs.paths.path_node.Reads as reads
-use Rattle.atoms.proofs.paths.path_node.Lts as lts
-use Rattle.atoms.proofs.paths.plain_path.Reads as plain-path-reads
-use Rattle.parser.proofs.inner.complete.Reads as complete-reads
-use Rattle.parser.proofs.inner.start.Reads as start-reads
 
 pub path_node_spec : {M : Type 1} → statement M
 unfolding path_node

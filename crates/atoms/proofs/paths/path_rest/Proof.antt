@@ -12,9 +12,6 @@ use Rattle.atoms.proofs.Laws.{turnings}
 use Rattle.atoms.proofs.Moves.{path_less}
 use Rattle.atoms.proofs.paths.path_rest.Statement.{statement}
 use Rattle.atoms.proofs.paths.path_rest.Tie as tie
-use Rattle.atoms.proofs.paths.path_rest.Reads as reads
-use Rattle.atoms.proofs.paths.path_rest.Lts as lts
-use Rattle.atoms.proofs.paths.path_turn.Reads as path-turn-reads
 
 abbrev invariant-loop-s1 : tie.invariant-loop-s1
 invariant-loop-s1 kinds joints events₀ s₀ m₀ events s m =

@@ -7,12 +7,6 @@ use Rattle.atoms.specs.Atom.{path_turn}
 use borrow.Author.Rules.{rules}
 use Rattle.atoms.proofs.paths.path_turn.Statement.{statement}
 use Rattle.atoms.proofs.paths.path_turn.Tie as tie
-use Rattle.atoms.proofs.paths.path_turn.Reads as reads
-use Rattle.atoms.proofs.paths.path_turn.Lts as lts
-use Rattle.atoms.proofs.atom.turn_of.Reads as turn-of-reads
-use Rattle.atoms.proofs.paths.qualified.Reads as qualified-reads
-use Rattle.input.proofs.kind_at.Reads as kind-at-reads
-use Rattle.input.proofs.nth_at.Reads as nth-at-reads
 
 -- src/paths.rt:102:31
 add-kind-at : tie.Need-overflow_add-at

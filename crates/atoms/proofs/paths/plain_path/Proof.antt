@@ -4,10 +4,6 @@ use Rattle.atoms.specs.Atom.{plain_path}
 use borrow.Author.Rules.{rules}
 use Rattle.atoms.proofs.paths.plain_path.Statement.{statement}
 use Rattle.atoms.proofs.paths.plain_path.Tie as tie
-use Rattle.atoms.proofs.paths.plain_path.Reads as reads
-use Rattle.atoms.proofs.paths.plain_path.Lts as lts
-use Rattle.atoms.proofs.paths.no_macro.Reads as no-macro-reads
-use Rattle.atoms.proofs.paths.path.Reads as path-reads
 
 pub plain_path_spec : {M : Type 1} → statement M
 unfolding plain_path

@@ -4,11 +4,6 @@ use Rattle.atoms.specs.Atom.{qualified}
 use borrow.Author.Rules.{rules}
 use Rattle.atoms.proofs.paths.qualified.Statement.{statement}
 use Rattle.atoms.proofs.paths.qualified.Tie as tie
-use Rattle.atoms.proofs.paths.qualified.Reads as reads
-use Rattle.atoms.proofs.paths.qualified.Lts as lts
-use Rattle.atoms.proofs.atom.lead.Reads as lead-reads
-use Rattle.atoms.proofs.paths.segment.Reads as segment-Reads
-use Rattle.parser.proofs.inner.complete.Reads as complete-reads
 
 pub qualified_spec : {M : Type 1} → statement M
 unfolding qualified

@@ -4,11 +4,6 @@ use Rattle.atoms.specs.Atom.{segment}
 use borrow.Author.Rules.{rules}
 use Rattle.atoms.proofs.paths.segment.Statement.{statement}
 use Rattle.atoms.proofs.paths.segment.Tie as tie
-use Rattle.atoms.proofs.paths.segment.Reads as reads
-use Rattle.atoms.proofs.paths.segment.Lts as lts
-use Rattle.atoms.proofs.atom.leaf.Reads as leaf-reads
-use Rattle.parser.proofs.inner.complete.Reads as complete-reads
-use Rattle.parser.proofs.inner.start.Reads as start-reads
 
 pub segment_spec : {M : Type 1} → statement M
 unfolding segment

@@ -4,11 +4,6 @@ use Rattle.atoms.specs.Atom.{cast_expr}
 use borrow.Author.Rules.{rules}
 use Rattle.atoms.proofs.types.cast_expr.Statement.{statement}
 use Rattle.atoms.proofs.types.cast_expr.Tie as tie
-use Rattle.atoms.proofs.types.cast_expr.Reads as reads
-use Rattle.atoms.proofs.types.cast_expr.Lts as lts
-use Rattle.atoms.proofs.atom.lead.Reads as lead-reads
-use Rattle.atoms.proofs.types.cast_type.Reads as cast-type-reads
-use Rattle.parser.proofs.inner.complete.Reads as complete-reads
 
 pub cast_expr_spec : {M : Type 1} → statement M
 unfolding cast_expr

@@ -4,12 +4,6 @@ use Rattle.atoms.specs.Atom.{cast_type}
 use borrow.Author.Rules.{rules}
 use Rattle.atoms.proofs.types.cast_type.Statement.{statement}
 use Rattle.atoms.proofs.types.cast_type.Tie as tie
-use Rattle.atoms.proofs.types.cast_type.Reads as reads
-use Rattle.atoms.proofs.types.cast_type.Lts as lts
-use Rattle.operators.proofs.token_set.outside_type.Reads as outside-type-reads
-use Rattle.atoms.proofs.types.path_type.Reads as path-type-reads
-use Rattle.input.proofs.kind_at.Reads as kind-at-reads
-use Rattle.parser.proofs.inner.error.Reads as error-reads
 
 pub cast_type_spec : {M : Type 1} → statement M
 unfolding cast_type

@@ -4,10 +4,6 @@ use Rattle.atoms.specs.Atom.{path_type}
 use borrow.Author.Rules.{rules}
 use Rattle.atoms.proofs.types.path_type.Statement.{statement}
 use Rattle.atoms.proofs.types.path_type.Tie as tie
-use Rattle.atoms.proofs.types.path_type.Reads as reads
-use Rattle.atoms.proofs.types.path_type.Lts as lts
-use Rattle.atoms.proofs.paths.path_node.Reads as path-node-reads
-use Rattle.atoms.proofs.types.after_type.Reads as after-type-reads
 
 pub path_type_spec : {M : Type 1} → statement M
 unfolding path_type

@@ -4,10 +4,6 @@ use Rattle.grammar.specs.Expressions.{after_argument}
 use borrow.Author.Rules.{rules}
 use Rattle.grammar.proofs.expressions.after_argument.Statement.{statement}
 use Rattle.grammar.proofs.expressions.after_argument.Tie as tie
-use Rattle.grammar.proofs.expressions.after_argument.Reads as reads
-use Rattle.grammar.proofs.expressions.after_argument.Lts as lts
-use Rattle.grammar.proofs.expressions.no_comma.Reads as no-comma-reads
-use Rattle.parser.proofs.inner.eat.Reads as eat-reads
 
 pub after_argument_spec : {M : Type 1} → statement M
 unfolding after_argument

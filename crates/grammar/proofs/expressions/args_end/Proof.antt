@@ -3,8 +3,6 @@ use Rattle.grammar.specs.Views.{args_end}
 use borrow.Author.Rules.{rules}
 use Rattle.grammar.proofs.expressions.args_end.Statement.{statement}
 use Rattle.grammar.proofs.expressions.args_end.Tie as tie
-use Rattle.grammar.proofs.expressions.args_end.Reads as reads
-use Rattle.grammar.proofs.expressions.args_end.Lts as lts
 
 pub args_end_spec : {M : Type 1} → statement M
 unfolding args_end

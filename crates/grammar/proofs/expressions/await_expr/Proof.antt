@@ -4,11 +4,6 @@ use Rattle.grammar.specs.Expressions.{await_expr}
 use borrow.Author.Rules.{rules}
 use Rattle.grammar.proofs.expressions.await_expr.Statement.{statement}
 use Rattle.grammar.proofs.expressions.await_expr.Tie as tie
-use Rattle.grammar.proofs.expressions.await_expr.Reads as reads
-use Rattle.grammar.proofs.expressions.await_expr.Lts as lts
-use Rattle.atoms.proofs.atom.bump.Reads as bump-reads
-use Rattle.grammar.proofs.expressions.dotted.Reads as dotted-reads
-use Rattle.parser.proofs.inner.complete.Reads as complete-reads
 
 pub await_expr_spec : {M : Type 1} → statement M
 unfolding await_expr

@@ -4,10 +4,6 @@ use Rattle.grammar.specs.Expressions.{begin_ref}
 use borrow.Author.Rules.{rules}
 use Rattle.grammar.proofs.expressions.begin_ref.Statement.{statement}
 use Rattle.grammar.proofs.expressions.begin_ref.Tie as tie
-use Rattle.grammar.proofs.expressions.begin_ref.Reads as reads
-use Rattle.grammar.proofs.expressions.begin_ref.Lts as lts
-use Rattle.atoms.proofs.atom.begin.Reads as begin-reads
-use Rattle.parser.proofs.inner.eat.Reads as eat-reads
 
 pub begin_ref_spec : {M : Type 1} → statement M
 unfolding begin_ref

@@ -4,10 +4,6 @@ use Rattle.grammar.specs.Expressions.{dotted}
 use borrow.Author.Rules.{rules}
 use Rattle.grammar.proofs.expressions.dotted.Statement.{statement}
 use Rattle.grammar.proofs.expressions.dotted.Tie as tie
-use Rattle.grammar.proofs.expressions.dotted.Reads as reads
-use Rattle.grammar.proofs.expressions.dotted.Lts as lts
-use Rattle.atoms.proofs.atom.lead.Reads as lead-reads
-use Rattle.parser.proofs.inner.precede.Reads as precede-reads
 
 pub dotted_spec : {M : Type 1} → statement M
 unfolding dotted

@@ -4,10 +4,6 @@ use Rattle.grammar.specs.Expressions.{field_expr}
 use borrow.Author.Rules.{rules}
 use Rattle.grammar.proofs.expressions.field_expr.Statement.{statement}
 use Rattle.grammar.proofs.expressions.field_expr.Tie as tie
-use Rattle.grammar.proofs.expressions.field_expr.Reads as reads
-use Rattle.grammar.proofs.expressions.field_expr.Lts as lts
-use Rattle.grammar.proofs.expressions.dotted.Reads as dotted-reads
-use Rattle.grammar.proofs.expressions.field.Reads as field-reads
 
 pub field_expr_spec : {M : Type 1} → statement M
 unfolding field_expr

@@ -4,10 +4,6 @@ use Rattle.grammar.specs.Expressions.{float_field}
 use borrow.Author.Rules.{rules}
 use Rattle.grammar.proofs.expressions.float_field.Statement.{statement}
 use Rattle.grammar.proofs.expressions.float_field.Tie as tie
-use Rattle.grammar.proofs.expressions.float_field.Reads as reads
-use Rattle.grammar.proofs.expressions.float_field.Lts as lts
-use Rattle.input.proofs.joint_at.Reads as joint-at-reads
-use Rattle.parser.proofs.inner.split_float.Reads as split-float-reads
 
 pub float_field_spec : {M : Type 1} → statement M
 unfolding float_field

@@ -4,9 +4,6 @@ use Rattle.grammar.specs.Expressions.{given_up}
 use borrow.Author.Rules.{rules}
 use Rattle.grammar.proofs.expressions.given_up.Statement.{statement}
 use Rattle.grammar.proofs.expressions.given_up.Tie as tie
-use Rattle.grammar.proofs.expressions.given_up.Reads as reads
-use Rattle.grammar.proofs.expressions.given_up.Lts as lts
-use Rattle.parser.proofs.inner.abandon.Reads as abandon-reads
 
 pub given_up_spec : {M : Type 1} → statement M
 unfolding given_up

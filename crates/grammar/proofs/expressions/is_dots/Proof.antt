@@ -4,9 +4,6 @@ use Rattle.grammar.specs.Expressions.{is_dots}
 use borrow.Author.Rules.{rules}
 use Rattle.grammar.proofs.expressions.is_dots.Statement.{statement}
 use Rattle.grammar.proofs.expressions.is_dots.Tie as tie
-use Rattle.grammar.proofs.expressions.is_dots.Reads as reads
-use Rattle.grammar.proofs.expressions.is_dots.Lts as lts
-use Rattle.input.proofs.nth_at.Reads as nth-at-reads
 
 pub is_dots_spec : {M : Type 1} → statement M
 unfolding is_dots

@@ -9,10 +9,6 @@ use Rattle.grammar.specs.Expressions.{is_method}
 use borrow.Author.Rules.{rules}
 use Rattle.grammar.proofs.expressions.is_method.Statement.{statement}
 use Rattle.grammar.proofs.expressions.is_method.Tie as tie
-use Rattle.grammar.proofs.expressions.is_method.Reads as reads
-use Rattle.grammar.proofs.expressions.is_method.Lts as lts
-use Rattle.input.proofs.kind_at.Reads as kind-at-reads
-use Rattle.input.proofs.nth_at.Reads as nth-at-reads
 
 -- src/expressions.rt:400:31
 add-kind-at : tie.Need-overflow_add-at

@@ -3,8 +3,6 @@ use Rattle.grammar.specs.Views.{last_of}
 use borrow.Author.Rules.{rules}
 use Rattle.grammar.proofs.expressions.last_of.Statement.{statement}
 use Rattle.grammar.proofs.expressions.last_of.Tie as tie
-use Rattle.grammar.proofs.expressions.last_of.Reads as reads
-use Rattle.grammar.proofs.expressions.last_of.Lts as lts
 
 pub last_of_spec : {M : Type 1} → statement M
 unfolding last_of

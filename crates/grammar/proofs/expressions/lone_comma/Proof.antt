@@ -4,9 +4,6 @@ use Rattle.grammar.specs.Expressions.{lone_comma}
 use borrow.Author.Rules.{rules}
 use Rattle.grammar.proofs.expressions.lone_comma.Statement.{statement}
 use Rattle.grammar.proofs.expressions.lone_comma.Tie as tie
-use Rattle.grammar.proofs.expressions.lone_comma.Reads as reads
-use Rattle.grammar.proofs.expressions.lone_comma.Lts as lts
-use Rattle.atoms.proofs.atom.err_and_bump.Reads as err-and-bump-reads
 
 pub lone_comma_spec : {M : Type 1} → statement M
 unfolding lone_comma

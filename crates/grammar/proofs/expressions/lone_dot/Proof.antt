@@ -4,9 +4,6 @@ use Rattle.grammar.specs.Expressions.{lone_dot}
 use borrow.Author.Rules.{rules}
 use Rattle.grammar.proofs.expressions.lone_dot.Statement.{statement}
 use Rattle.grammar.proofs.expressions.lone_dot.Tie as tie
-use Rattle.grammar.proofs.expressions.lone_dot.Reads as reads
-use Rattle.grammar.proofs.expressions.lone_dot.Lts as lts
-use Rattle.atoms.proofs.atom.err_recover.Reads as err-recover-reads
 
 pub lone_dot_spec : {M : Type 1} → statement M
 unfolding lone_dot

@@ -4,10 +4,6 @@ use Rattle.grammar.specs.Expressions.{method_head}
 use borrow.Author.Rules.{rules}
 use Rattle.grammar.proofs.expressions.method_head.Statement.{statement}
 use Rattle.grammar.proofs.expressions.method_head.Tie as tie
-use Rattle.grammar.proofs.expressions.method_head.Reads as reads
-use Rattle.grammar.proofs.expressions.method_head.Lts as lts
-use Rattle.grammar.proofs.expressions.dotted.Reads as dotted-reads
-use Rattle.grammar.proofs.expressions.method_name.Reads as method-name-reads
 
 pub method_head_spec : {M : Type 1} → statement M
 unfolding method_head

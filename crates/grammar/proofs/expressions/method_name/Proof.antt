@@ -4,12 +4,6 @@ use Rattle.grammar.specs.Expressions.{method_name}
 use borrow.Author.Rules.{rules}
 use Rattle.grammar.proofs.expressions.method_name.Statement.{statement}
 use Rattle.grammar.proofs.expressions.method_name.Tie as tie
-use Rattle.grammar.proofs.expressions.method_name.Reads as reads
-use Rattle.grammar.proofs.expressions.method_name.Lts as lts
-use Rattle.atoms.proofs.atom.leaf.Reads as leaf-reads
-use Rattle.grammar.proofs.expressions.no_generics.Reads as no-generics-reads
-use Rattle.input.proofs.kind_at.Reads as kind-at-reads
-use Rattle.parser.proofs.inner.error.Reads as error-reads
 
 pub method_name_spec : {M : Type 1} → statement M
 unfolding method_name

@@ -3,9 +3,6 @@ use Rattle.grammar.proofs.Laws.{missings}
 use borrow.Author.Rules.{rules}
 use Rattle.grammar.proofs.expressions.missing.Statement.{statement}
 use Rattle.grammar.proofs.expressions.missing.Tie as tie
-use Rattle.grammar.proofs.expressions.missing.Reads as reads
-use Rattle.grammar.proofs.expressions.missing.Lts as lts
-use Rattle.grammar.proofs.expressions.given_up.Reads as given-up-reads
 
 pub missing_spec : {M : Type 1} → statement M
 missing_spec =

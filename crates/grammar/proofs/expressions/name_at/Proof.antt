@@ -4,8 +4,6 @@ use Rattle.grammar.specs.Expressions.{name_at}
 use borrow.Author.Rules.{rules}
 use Rattle.grammar.proofs.expressions.name_at.Statement.{statement}
 use Rattle.grammar.proofs.expressions.name_at.Tie as tie
-use Rattle.grammar.proofs.expressions.name_at.Reads as reads
-use Rattle.grammar.proofs.expressions.name_at.Lts as lts
 
 pub name_at_spec : {M : Type 1} → statement M
 unfolding name_at

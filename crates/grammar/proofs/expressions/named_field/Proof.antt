@@ -4,10 +4,6 @@ use Rattle.grammar.specs.Expressions.{named_field}
 use borrow.Author.Rules.{rules}
 use Rattle.grammar.proofs.expressions.named_field.Statement.{statement}
 use Rattle.grammar.proofs.expressions.named_field.Tie as tie
-use Rattle.grammar.proofs.expressions.named_field.Reads as reads
-use Rattle.grammar.proofs.expressions.named_field.Lts as lts
-use Rattle.atoms.proofs.atom.leaf.Reads as leaf-reads
-use Rattle.parser.proofs.inner.complete.Reads as complete-reads
 
 pub named_field_spec : {M : Type 1} → statement M
 unfolding named_field

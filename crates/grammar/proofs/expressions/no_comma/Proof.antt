@@ -4,11 +4,6 @@ use Rattle.grammar.specs.Expressions.{no_comma}
 use borrow.Author.Rules.{rules}
 use Rattle.grammar.proofs.expressions.no_comma.Statement.{statement}
 use Rattle.grammar.proofs.expressions.no_comma.Tie as tie
-use Rattle.grammar.proofs.expressions.no_comma.Reads as reads
-use Rattle.grammar.proofs.expressions.no_comma.Lts as lts
-use Rattle.operators.proofs.token_set.is_first.Reads as is-first-reads
-use Rattle.input.proofs.kind_at.Reads as kind-at-reads
-use Rattle.parser.proofs.inner.error.Reads as error-reads
 
 pub no_comma_spec : {M : Type 1} → statement M
 unfolding no_comma

@@ -4,10 +4,6 @@ use Rattle.grammar.specs.Expressions.{no_expression}
 use borrow.Author.Rules.{rules}
 use Rattle.grammar.proofs.expressions.no_expression.Statement.{statement}
 use Rattle.grammar.proofs.expressions.no_expression.Tie as tie
-use Rattle.grammar.proofs.expressions.no_expression.Reads as reads
-use Rattle.grammar.proofs.expressions.no_expression.Lts as lts
-use Rattle.atoms.proofs.atom.err_recover.Reads as err-recover-reads
-use Rattle.grammar.proofs.expressions.given_up.Reads as given-up-reads
 
 pub no_expression_spec : {M : Type 1} → statement M
 unfolding no_expression

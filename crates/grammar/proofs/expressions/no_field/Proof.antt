@@ -4,10 +4,6 @@ use Rattle.grammar.specs.Expressions.{no_field}
 use borrow.Author.Rules.{rules}
 use Rattle.grammar.proofs.expressions.no_field.Statement.{statement}
 use Rattle.grammar.proofs.expressions.no_field.Tie as tie
-use Rattle.grammar.proofs.expressions.no_field.Reads as reads
-use Rattle.grammar.proofs.expressions.no_field.Lts as lts
-use Rattle.parser.proofs.inner.complete.Reads as complete-reads
-use Rattle.parser.proofs.inner.error.Reads as error-reads
 
 pub no_field_spec : {M : Type 1} → statement M
 unfolding no_field

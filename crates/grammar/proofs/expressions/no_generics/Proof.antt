@@ -4,9 +4,6 @@ use Rattle.grammar.specs.Expressions.{no_generics}
 use borrow.Author.Rules.{rules}
 use Rattle.grammar.proofs.expressions.no_generics.Statement.{statement}
 use Rattle.grammar.proofs.expressions.no_generics.Tie as tie
-use Rattle.grammar.proofs.expressions.no_generics.Reads as reads
-use Rattle.grammar.proofs.expressions.no_generics.Lts as lts
-use Rattle.input.proofs.nth_at.Reads as nth-at-reads
 
 pub no_generics_spec : {M : Type 1} → statement M
 unfolding no_generics

@@ -4,10 +4,6 @@ use Rattle.grammar.specs.Expressions.{paren_tail}
 use borrow.Author.Rules.{rules}
 use Rattle.grammar.proofs.expressions.paren_tail.Statement.{statement}
 use Rattle.grammar.proofs.expressions.paren_tail.Tie as tie
-use Rattle.grammar.proofs.expressions.paren_tail.Reads as reads
-use Rattle.grammar.proofs.expressions.paren_tail.Lts as lts
-use Rattle.atoms.proofs.atom.closing.Reads as closing-reads
-use Rattle.input.proofs.kind_at.Reads as kind-at-reads
 
 pub paren_tail_spec : {M : Type 1} → statement M
 unfolding paren_tail

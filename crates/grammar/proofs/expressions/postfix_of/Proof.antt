@@ -3,8 +3,6 @@ use Rattle.grammar.specs.Views.{postfix_of}
 use borrow.Author.Rules.{rules}
 use Rattle.grammar.proofs.expressions.postfix_of.Statement.{statement}
 use Rattle.grammar.proofs.expressions.postfix_of.Tie as tie
-use Rattle.grammar.proofs.expressions.postfix_of.Reads as reads
-use Rattle.grammar.proofs.expressions.postfix_of.Lts as lts
 
 pub postfix_of_spec : {M : Type 1} → statement M
 unfolding postfix_of

@@ -3,8 +3,6 @@ use Rattle.grammar.specs.Views.{reading_of}
 use borrow.Author.Rules.{rules}
 use Rattle.grammar.proofs.expressions.reading_of.Statement.{statement}
 use Rattle.grammar.proofs.expressions.reading_of.Tie as tie
-use Rattle.grammar.proofs.expressions.reading_of.Reads as reads
-use Rattle.grammar.proofs.expressions.reading_of.Lts as lts
 
 pub reading_of_spec : {M : Type 1} → statement M
 unfolding reading_of

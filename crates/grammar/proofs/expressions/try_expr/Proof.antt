@@ -4,10 +4,6 @@ use Rattle.grammar.specs.Expressions.{try_expr}
 use borrow.Author.Rules.{rules}
 use Rattle.grammar.proofs.expressions.try_expr.Statement.{statement}
 use Rattle.grammar.proofs.expressions.try_expr.Tie as tie
-use Rattle.grammar.proofs.expressions.try_expr.Reads as reads
-use Rattle.grammar.proofs.expressions.try_expr.Lts as lts
-use Rattle.atoms.proofs.atom.lead.Reads as lead-reads
-use Rattle.parser.proofs.inner.complete.Reads as complete-reads
 
 pub try_expr_spec : {M : Type 1} → statement M
 unfolding try_expr

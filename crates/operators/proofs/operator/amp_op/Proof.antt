@@ -4,11 +4,6 @@ use Rattle.operators.specs.Strength.{amp_op, or_op}
 use borrow.Author.Rules.{rules}
 use Rattle.operators.proofs.operator.amp_op.Statement.{statement}
 use Rattle.operators.proofs.operator.amp_op.Tie as tie
-use Rattle.operators.proofs.operator.amp_op.Reads as reads
-use Rattle.operators.proofs.operator.amp_op.Lts as lts
-use Rattle.operators.proofs.operator.assignment.Reads as assignment-reads
-use Rattle.operators.proofs.operator.left.Reads as left-reads
-use Rattle.input.proofs.nth_at.Reads as nth-at-reads
 
 pub amp_op_spec : {M : Type 1} → statement M
 unfolding amp_op or_op

@@ -4,11 +4,6 @@ use Rattle.operators.specs.Strength.{bang_op, or_op}
 use borrow.Author.Rules.{rules}
 use Rattle.operators.proofs.operator.bang_op.Statement.{statement}
 use Rattle.operators.proofs.operator.bang_op.Tie as tie
-use Rattle.operators.proofs.operator.bang_op.Reads as reads
-use Rattle.operators.proofs.operator.bang_op.Lts as lts
-use Rattle.operators.proofs.operator.left.Reads as left-reads
-use Rattle.operators.proofs.operator.not_an_op.Reads as not-an-op-reads
-use Rattle.input.proofs.nth_at.Reads as nth-at-reads
 
 pub bang_op_spec : {M : Type 1} → statement M
 unfolding bang_op or_op

@@ -4,10 +4,6 @@ use Rattle.operators.specs.Strength.{current_op}
 use borrow.Author.Rules.{rules}
 use Rattle.operators.proofs.operator.current_op.Statement.{statement}
 use Rattle.operators.proofs.operator.current_op.Tie as tie
-use Rattle.operators.proofs.operator.current_op.Reads as reads
-use Rattle.operators.proofs.operator.current_op.Lts as lts
-use Rattle.operators.proofs.operator.op_of.Reads as op-of-reads
-use Rattle.input.proofs.kind_at.Reads as kind-at-reads
 
 pub current_op_spec : {M : Type 1} → statement M
 unfolding current_op

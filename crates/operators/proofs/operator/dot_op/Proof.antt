@@ -4,11 +4,6 @@ use Rattle.operators.specs.Strength.{dot_op, or_op}
 use borrow.Author.Rules.{rules}
 use Rattle.operators.proofs.operator.dot_op.Statement.{statement}
 use Rattle.operators.proofs.operator.dot_op.Tie as tie
-use Rattle.operators.proofs.operator.dot_op.Reads as reads
-use Rattle.operators.proofs.operator.dot_op.Lts as lts
-use Rattle.operators.proofs.operator.left.Reads as left-reads
-use Rattle.operators.proofs.operator.not_an_op.Reads as not-an-op-reads
-use Rattle.input.proofs.nth_at.Reads as nth-at-reads
 
 pub dot_op_spec : {M : Type 1} → statement M
 unfolding dot_op or_op

@@ -4,12 +4,6 @@ use Rattle.operators.specs.Strength.{eq_op, or_op}
 use borrow.Author.Rules.{rules}
 use Rattle.operators.proofs.operator.eq_op.Statement.{statement}
 use Rattle.operators.proofs.operator.eq_op.Tie as tie
-use Rattle.operators.proofs.operator.eq_op.Reads as reads
-use Rattle.operators.proofs.operator.eq_op.Lts as lts
-use Rattle.operators.proofs.operator.assignment.Reads as assignment-reads
-use Rattle.operators.proofs.operator.left.Reads as left-reads
-use Rattle.operators.proofs.operator.not_an_op.Reads as not-an-op-reads
-use Rattle.input.proofs.nth_at.Reads as nth-at-reads
 
 pub eq_op_spec : {M : Type 1} → statement M
 unfolding eq_op or_op

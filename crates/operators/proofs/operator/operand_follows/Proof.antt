@@ -9,10 +9,6 @@ use Rattle.operators.specs.Strength.{operand_follows}
 use borrow.Author.Rules.{rules}
 use Rattle.operators.proofs.operator.operand_follows.Statement.{statement}
 use Rattle.operators.proofs.operator.operand_follows.Tie as tie
-use Rattle.operators.proofs.operator.operand_follows.Reads as reads
-use Rattle.operators.proofs.operator.operand_follows.Lts as lts
-use Rattle.operators.proofs.token_set.is_first.Reads as is-first-reads
-use Rattle.input.proofs.kind_at.Reads as kind-at-reads
 
 -- src/operator.rt:196:39
 add-kind-at : tie.Need-overflow_add-at

@@ -4,11 +4,6 @@ use Rattle.operators.specs.Strength.{pipe_op, or_op}
 use borrow.Author.Rules.{rules}
 use Rattle.operators.proofs.operator.pipe_op.Statement.{statement}
 use Rattle.operators.proofs.operator.pipe_op.Tie as tie
-use Rattle.operators.proofs.operator.pipe_op.Reads as reads
-use Rattle.operators.proofs.operator.pipe_op.Lts as lts
-use Rattle.operators.proofs.operator.assignment.Reads as assignment-reads
-use Rattle.operators.proofs.operator.left.Reads as left-reads
-use Rattle.input.proofs.nth_at.Reads as nth-at-reads
 
 pub pipe_op_spec : {M : Type 1} → statement M
 unfolding pipe_op or_op

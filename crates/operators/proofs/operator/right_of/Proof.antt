@@ -3,8 +3,6 @@ use Rattle.operators.specs.Strength.{right_of, on_side}
 use borrow.Author.Rules.{rules}
 use Rattle.operators.proofs.operator.right_of.Statement.{statement}
 use Rattle.operators.proofs.operator.right_of.Tie as tie
-use Rattle.operators.proofs.operator.right_of.Reads as reads
-use Rattle.operators.proofs.operator.right_of.Lts as lts
 
 pub right_of_spec : {M : Type 1} → statement M
 unfolding right_of on_side

@@ -1,6 +1,6 @@
 -- The loop over the arguments meets its rule: what is left to do is the whole, and fewer tokens are left after each turn. Assumes nothing.
 use mathlib.Core.Path.{◌≡◌, refl}
-use Prim.Native.Nat.{◌+◌, ◌-◌, ◌*◌}
+use Prim.Native.Nat.{◌-◌}
 use native.Mathlib.Omega.{arith}
 use lib.ListN.{length}
 use Rattle.input.specs.Input.{lent}
