@@ -1,11 +1,13 @@
 // Prints the answers of stored forms that stand one after the other on standard input.
+#![tactic(auto)]
+
 ghost use Rattle.std.specs.Prelude.{◌≡◌, ◌-◌, ◌≤◌, length, take, drop};
 ghost use Rattle.event.specs.Event.{event_limit};
 
 use answers::Text;
 use event::State;
 use input::Position;
-use libc::{STDIN_FILENO, STDOUT_FILENO};
+use std::io::{self, Read};
 use stored::{Limited, Section, Span};
 
 // The bytes of a form: the longest has as many as `LIMIT`.
@@ -69,45 +71,45 @@ fn keep(buf: &mut [u8], from: usize, to: usize) -> usize
 }
 
 // Reads on after the first `have` bytes, and answers how many stand there then: fewer than the buffer holds where the input ends.
-fn fill(buf: &mut [u8], have: usize) -> usize {
+fn fill(input: &mut impl Read, buf: &mut [u8], have: usize) -> io::Result<usize> {
     if have <= buf.len() {
-        return have + io::read_full(STDIN_FILENO, &mut buf[have..]);
+        return Ok(have + streams::read_full(input, &mut buf[have..])?);
     }
-    have
+    Ok(have)
 }
 
 // Sees to it that a whole form is there, or all that is left of the input.
-fn refill(buf: &mut [u8], run: Run) -> Run {
+fn refill(input: &mut impl Read, buf: &mut [u8], run: Run) -> io::Result<Run> {
     let from = run.from;
     let to = run.to;
     if run.ended {
-        return run;
+        return Ok(run);
     }
     if from <= to {
         if Bytes::LIMIT <= to - from {
-            return run;
+            return Ok(run);
         }
     }
     let have = keep(buf, from, to);
-    let all = fill(buf, have);
-    Run {
+    let all = fill(input, buf, have)?;
+    Ok(Run {
         from: 0,
         to: all,
         text: run.text,
         ended: all < buf.len(),
         over: run.over,
-    }
+    })
 }
 
 // Prints what waits, where the next answer might not fit behind it.
-fn flush(out: &[u8], text: usize) -> usize {
+fn flush(rt: &impl Print, out: &[u8], text: usize) -> io::Result<usize> {
     if ANSWER <= out.len() {
         if text <= out.len() - ANSWER {
-            return text;
+            return Ok(text);
         }
     }
-    io::write_all(STDOUT_FILENO, part(out, 0, text));
-    0
+    rt.write_all(part(out, 0, text))?;
+    Ok(0)
 }
 
 // The run after a form that ends `len` bytes after its first.
@@ -140,29 +142,51 @@ fn stopped(run: Run, text: usize) -> Run {
 
 // Answers the form that stands first. "A broken form prints its refusal .. and ends the run"; so does one with a length above the limit,
 // since it is refused without reading on.
-fn answer(bytes: &[u8], events: &mut [u64], steps: &mut [u32], out: &mut [u8], run: Run) -> Run {
+fn answer(
+    rt: &impl Print,
+    bytes: &[u8],
+    events: &mut [u64],
+    steps: &mut [u32],
+    out: &mut [u8],
+    run: Run,
+) -> io::Result<Run> {
     let held = answers::first_limited(bytes, Position::LIMIT as u16);
     let text = answers::put_held(bytes, held, events, steps, out, run.text);
     match held {
-        Limited::Whole(form) => past(run, form.end, flush(out, text)),
-        Limited::Long => stopped(run, text),
-        Limited::Broken(_) => stopped(run, text),
+        Limited::Whole(form) => Ok(past(run, form.end, flush(rt, out, text)?)),
+        Limited::Long => Ok(stopped(run, text)),
+        Limited::Broken(_) => Ok(stopped(run, text)),
     }
 }
 
 // One form.
-fn turn(buf: &mut [u8], events: &mut [u64], steps: &mut [u32], out: &mut [u8], run: Run) -> Run {
-    let next = refill(buf, run);
+fn turn(
+    rt: &impl Print,
+    input: &mut impl Read,
+    buf: &mut [u8],
+    events: &mut [u64],
+    steps: &mut [u32],
+    out: &mut [u8],
+    run: Run,
+) -> io::Result<Run> {
+    let next = refill(input, buf, run)?;
     let from = next.from;
     let to = next.to;
     if to <= from {
-        return stopped(next, next.text);
+        return Ok(stopped(next, next.text));
     }
-    answer(part(buf, from, to), events, steps, out, next)
+    answer(rt, part(buf, from, to), events, steps, out, next)
 }
 
 // A proved loop has to end, and nothing says that the input does: it ends after 2^64 - 1 forms.
-fn answer_all(buf: &mut [u8], events: &mut [u64], steps: &mut [u32], out: &mut [u8]) {
+fn answer_all(
+    rt: &impl Print,
+    input: &mut impl Read,
+    buf: &mut [u8],
+    events: &mut [u64],
+    steps: &mut [u32],
+    out: &mut [u8],
+) -> io::Result<()> {
     let mut run = Run {
         from: 0,
         to: 0,
@@ -173,12 +197,12 @@ fn answer_all(buf: &mut [u8], events: &mut [u64], steps: &mut [u32], out: &mut [
     let mut turns = u64::MAX;
     while turns > 0 {
         turns -= 1;
-        run = turn(buf, events, steps, out, run);
+        run = turn(rt, input, buf, events, steps, out, run)?;
         if run.over {
             turns = 0;
         }
     }
-    io::write_all(STDOUT_FILENO, part(out, 0, run.text));
+    rt.write_all(part(out, 0, run.text))
 }
 
 // Room for the events, the steps and the text. Only the length of each is known where it is lent.
@@ -200,10 +224,17 @@ fn text_room() -> [u8; PRINTED]
     [0; PRINTED]
 }
 
-fn main() {
-    let mut buf = io::large_buffer();
+fn main(rt: HostRuntime) -> io::Result<()> {
+    let mut buf = streams::large_buffer();
     let mut events = events_room();
     let mut steps = steps_room();
     let mut out = text_room();
-    answer_all(&mut buf, &mut events, &mut steps, &mut out);
+    answer_all(
+        &rt,
+        &mut rt.stdin(),
+        &mut buf,
+        &mut events,
+        &mut steps,
+        &mut out,
+    )
 }

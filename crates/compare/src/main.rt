@@ -1,6 +1,8 @@
 // Prints how the steps of two formula revisions differ: two stored forms, one after the other, on standard input.
+#![tactic(auto)]
+
 use answers::{Room, Text, Tokens};
-use libc::{STDIN_FILENO, STDOUT_FILENO};
+use std::io;
 use stored::{Limited, Section, Span};
 
 // The bytes of two forms of the longest kind, and one behind them: "nothing after".
@@ -32,9 +34,9 @@ fn behind(bytes: &[u8], held: Limited) -> &[u8] {
     }
 }
 
-fn main() {
+fn main(rt: HostRuntime) -> io::Result<()> {
     let mut buf = [0u8; FORMS];
-    let have = io::read_full(STDIN_FILENO, &mut buf);
+    let have = streams::read_full(&mut rt.stdin(), &mut buf)?;
     let bytes = first(&buf, have);
     let mut events = [0u64; ROOM];
     let mut steps = [0u32; ROOM];
@@ -46,5 +48,5 @@ fn main() {
     let other_held = stored::decode_limited(rest, Tokens::LIMIT);
     let other = answers::answer_of(rest, other_held, &mut events, &mut other_steps);
     let end = revision::put_revisions(&mut out, 0, answer, &steps, other, &other_steps);
-    io::write_all(STDOUT_FILENO, first(&out, end));
+    rt.write_all(first(&out, end))
 }

@@ -1,8 +1,10 @@
 // Reads one stored form of at most 256 tokens from standard input, and prints the answer.
+#![tactic(auto)]
+
 ghost use Rattle.std.specs.Prelude.{◌+◌, ◌≤◌};
 
 use answers::{Room, Text, Tokens};
-use libc::{STDIN_FILENO, STDOUT_FILENO};
+use std::io::{self, Read};
 use stored::{Head, Section, Span, Tag};
 
 // The first bytes of a buffer.
@@ -11,40 +13,40 @@ fn first(buf: &[u8], have: usize) -> &[u8] {
 }
 
 // Reads on until `end` bytes stand in `buf`, and answers how many do: fewer where the input ends.
-fn fill(buf: &mut [u8], have: usize, end: usize) -> usize {
+fn fill(input: &mut impl Read, buf: &mut [u8], have: usize, end: usize) -> io::Result<usize> {
     if have <= end {
         if end <= buf.len() {
-            return have + io::read_full(STDIN_FILENO, &mut buf[have..end]);
+            return Ok(have + streams::read_full(input, &mut buf[have..end])?);
         }
     }
-    have
+    Ok(have)
 }
 
 // Reads on to the end of the joints' head, and then to the byte after the joints: "nothing after".
-fn read_joints(buf: &mut [u8], have: usize, at: usize) -> usize
+fn read_joints(input: &mut impl Read, buf: &mut [u8], have: usize, at: usize) -> io::Result<usize>
     requires { at ≤ 65536 }
 {
-    let have = fill(buf, have, at + Section::HEAD);
+    let have = fill(input, buf, have, at + Section::HEAD)?;
     match stored::head_at(first(buf, have), at, Tag::JOINTS) {
         Head::Length(len) => if (Tokens::LIMIT as usize) < len {
-            have
+            Ok(have)
         } else {
-            fill(buf, have, at + Section::HEAD + len + 1)
+            fill(input, buf, have, at + Section::HEAD + len + 1)
         },
-        Head::Broken(_) => have,
+        Head::Broken(_) => Ok(have),
     }
 }
 
 // "refuses 3 at 0 at the first length above 256 without reading on": no more is read than what decides the answer.
-fn read_form(buf: &mut [u8]) -> usize {
-    let have = fill(buf, 0, Section::HEAD);
+fn read_form(input: &mut impl Read, buf: &mut [u8]) -> io::Result<usize> {
+    let have = fill(input, buf, 0, Section::HEAD)?;
     match stored::head_at(first(buf, have), 0, Tag::KINDS) {
         Head::Length(len) => if (Tokens::LIMIT as usize) < len {
-            have
+            Ok(have)
         } else {
-            read_joints(buf, have, Section::HEAD + len)
+            read_joints(input, buf, have, Section::HEAD + len)
         },
-        Head::Broken(_) => have,
+        Head::Broken(_) => Ok(have),
     }
 }
 
@@ -55,14 +57,14 @@ const ROOM: usize = Room::EACH * (Tokens::LIMIT as usize) + Room::EACH;
 // The text of as many steps.
 const TEXT: usize = Text::HEAD + Text::LINE * ROOM;
 
-fn main() {
+fn main(rt: HostRuntime) -> io::Result<()> {
     let mut buf = [0u8; FORM];
-    let have = read_form(&mut buf);
+    let have = read_form(&mut rt.stdin(), &mut buf)?;
     let bytes = first(&buf, have);
     let mut events = [0u64; ROOM];
     let mut steps = [0u32; ROOM];
     let mut out = [0u8; TEXT];
     let held = stored::decode_limited(bytes, Tokens::LIMIT);
     let end = answers::put_held(bytes, held, &mut events, &mut steps, &mut out, 0);
-    io::write_all(STDOUT_FILENO, first(&out, end));
+    rt.write_all(first(&out, end))
 }

@@ -4,39 +4,39 @@ use Prim.Native.Nat.{◌≤◌, ◌-◌}
 use Rattle.machine_tests.proofs.all_zero.Statement.{statement}
 use Rattle.machine_tests.proofs.all_zero.Tie as tie
 
-abbrev invariant-loop : tie.invariant-loop
-invariant-loop events end at₀ at = at ≤ end
+abbrev invariant-loop-at : tie.invariant-loop-at
+invariant-loop-at events end at₀ at = at ≤ end
 
-abbrev decreases-loop : tie.decreases-loop
-decreases-loop events end at₀ at = end - at
+abbrev decreases-loop-at : tie.decreases-loop-at
+decreases-loop-at events end at₀ at = end - at
 
-loop-holds : tie.Need-loop-init invariant-loop decreases-loop
+loop-holds : tie.Need-loop-at-init invariant-loop-at decreases-loop-at
 loop-holds c = search rules
 
-event-at-requires : tie.Need-event-at-requires invariant-loop decreases-loop
+event-at-requires : tie.Need-event_at-requires invariant-loop-at decreases-loop-at
 event-at-requires c κs = search rules
 
-add_at : tie.Need-overflow-add-at invariant-loop decreases-loop
+add_at : tie.Need-overflow_add-at invariant-loop-at decreases-loop-at
 add_at c = search rules
 
-loop-less : tie.Need-loop-smaller invariant-loop decreases-loop
+loop-less : tie.Need-loop-at-smaller invariant-loop-at decreases-loop-at
 loop-less c = search rules
 
-loop-again : tie.Need-loop-preserved invariant-loop decreases-loop
+loop-again : tie.Need-loop-at-preserved invariant-loop-at decreases-loop-at
 loop-again c = search rules
 
-returns : tie.Need-returns invariant-loop decreases-loop
+returns : tie.Need-returns-else-event_at-eq0 invariant-loop-at decreases-loop-at
 returns c = search rules
 
-returns-2 : tie.Need-returns-2 invariant-loop decreases-loop
+returns-2 : tie.Need-returns invariant-loop-at decreases-loop-at
 returns-2 c = search rules
 
 pub all_zero_spec : {M : Type 1} → statement M
 all_zero_spec =
     tie.close
     (tie.spec
-    invariant-loop
-    decreases-loop
+    invariant-loop-at
+    decreases-loop-at
     loop-holds
     event-at-requires
     add_at
