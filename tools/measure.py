@@ -5,7 +5,7 @@ usage:
   measure.py stack     bytes of stack a level of nesting, by kind of nesting, as a run needs them
   measure.py work      instructions a token, for lists of growing length (needs valgrind)
 
-Both run the program `batch`, which `rt check` built, on an x86-64 Linux machine.
+Both run the program `batch`, which `rt ci` built, on an x86-64 Linux machine.
 """
 
 import os
@@ -16,9 +16,9 @@ import sys
 import tempfile
 
 import formula
+from formula import programs
 
-ROOT = os.path.dirname(os.path.dirname(os.path.abspath(__file__)))
-BATCH = os.path.join(ROOT, 'target', 'bin', 'batch')
+BATCH = programs.file_of('batch')
 PAGE = 4096
 DEPTH = 128
 

@@ -4,7 +4,7 @@
 usage: test_programs.py [READ BATCH COMPARE]
 
 READ, BATCH and COMPARE are command lines; by default the programs that
-`rt check` built, under tools/run. The inputs and answers are those of
+`rt ci` built, by tools/run. The inputs and answers are those of
 cases.py; what `compare` must print is worked out from what `read` prints.
 """
 

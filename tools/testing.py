@@ -11,9 +11,7 @@ from formula import programs
 
 ROOT = programs.ROOT
 TOOL = os.path.join(ROOT, 'tools', 'formula.py')
-
-
-NOT_BUILT = 'not built, `rt check` builds it: '
+NOT_BUILT = 'not built, `rt ci` builds it: '
 
 
 def unbuilt(names):

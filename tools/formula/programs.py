@@ -19,9 +19,14 @@ CHUNK = 65536
 COMPLAINT_BYTES = 4096
 
 
+def file_of(name):
+    """Where a program of the project stands once it is built."""
+    return os.path.join(ROOT, 'crates', name, 'out', name)
+
+
 def built(name):
     """Whether a program of the project is built."""
-    return os.path.isfile(os.path.join(ROOT, 'target', 'bin', name))
+    return os.path.isfile(file_of(name))
 
 
 def command_of(name):
@@ -30,7 +35,7 @@ def command_of(name):
         raise FormulaError(f'the program `{name}` is not part of this tree')
     if not built(name):
         raise FormulaError(f'the program `{name}` is not built:'
-                           f' `rt check {name}` proves and builds it')
+                           ' `rt ci` proves and builds it')
     return [RUN, name]
 
 

@@ -17,8 +17,8 @@ usage:
 TEXT is one argument in UTF-8 and may begin with a minus sign. A formula that
 is spelled like an option gets a blank in front: ' --full'.
 
-What is shown comes from the proved programs that `rt check` builds, and the
-tool says where it adds something of its own. Text becomes tokens here: the
+What is shown comes from the proved programs that `rt ci` builds, and the tool
+says where it adds something of its own. Text becomes tokens here: the
 product does no lexing.
 
 The exit status is 0 when the work was done (a refusal is an answer like
