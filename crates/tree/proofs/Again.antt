@@ -6,8 +6,8 @@ use lib.ListN.{drop}
 use lib.Dec.{eqb, ltb}
 use Rattle.base.specs.Base.{whether, bound, called}
 use Rattle.input.specs.SyntaxKind.{EOF, IDENT, AS_KW, MUT_KW, AWAIT_KW, L_PAREN, R_PAREN, L_BRACK, COMMA, DOT, AMP, QUESTION, COLON2}
-use Rattle.tree.specs.Tree.{Tree, literal, name, paren, prefix, borrowed, borrowedMut, binary, cast, call, index, try, field, method, await, two_fields, Stem, dotted, pointed, Args, nothing, last, more, Leaf, tok, float}
-use Rattle.tree.specs.Table.{Associativity, unsaid, leftToRight, rightToLeft, requireParentheses, holds, place, side}
+use Rattle.tree.specs.Tree.{Tree, literal, name, paren, prefix, borrowed, borrowed_mut, binary, cast, call, index, try, field, method, await, two_fields, Stem, dotted, pointed, Args, nothing, last, more, Leaf, tok, float}
+use Rattle.tree.specs.Table.{Associativity, unsaid, left_to_right, right_to_left, require_parentheses, holds, place, side}
 use Rattle.tree.specs.Grouped.{prefixes}
 
 -- the first leaf as a number: a token by its kind, a float by a number that no kind has
@@ -28,9 +28,9 @@ unfoldable pub power : ℕ → ℕ
 power op = 18 - place op
 
 unfoldable pub right_by : Associativity → ℕ → ℕ
-right_by rightToLeft p = p
-right_by leftToRight p = p + 1
-right_by requireParentheses p = p + 1
+right_by right_to_left p = p
+right_by left_to_right p = p + 1
+right_by require_parentheses p = p + 1
 right_by unsaid p = p + 1
 
 -- what an operator's right operand is read at
@@ -52,7 +52,7 @@ module _ (rd : Read) where
       bound (head_of l) λ k.
       whether (eqb k L_PAREN) (λ _. called (rd 1 (drop 1 l)) λ t l1. (paren t, drop 1 l1)) λ _.
       whether (eqb k AMP)
-      (λ _. whether (eqb (head_of (drop 1 l)) MUT_KW) (λ _. called (rd 255 (drop 2 l)) λ t l1. (borrowedMut t, l1)) (λ _. called (rd 255 (drop 1 l)) λ t l1. (borrowed t, l1))) λ _.
+      (λ _. whether (eqb (head_of (drop 1 l)) MUT_KW) (λ _. called (rd 255 (drop 2 l)) λ t l1. (borrowed_mut t, l1)) (λ _. called (rd 255 (drop 1 l)) λ t l1. (borrowed t, l1))) λ _.
       whether (holds k prefixes) (λ _. called (rd 255 (drop 1 l)) λ t l1. (prefix k t, l1)) λ _.
       whether (eqb k IDENT) (λ _. called (names_in (drop 1 l)) λ n l1. (name n, l1)) (λ _. (literal k, drop 1 l))
 

@@ -19,7 +19,7 @@ use Rattle.parser.specs.declared.CompletedMarker.{CompletedMarker}
 use Rattle.operators.specs.TokenSet.{is_first, is_prefix, outside_atom}
 use Rattle.atoms.specs.Atom.{Node, begin, closing, leaf, err_recover, path_node}
 use Rattle.grammar.specs.Expressions.{Rule, lone_dot, plain_atom, anyway, begin_ref, paren_tail, paren_body, paren_expr, atom_expr, atom_postfix, postfix_expr, ref_expr, prefix_expr, leading_range, range_or_atom, lhs}
-use Rattle.tree.specs.Tree.{Tree, literal, name, paren, prefix, borrowed, borrowedMut, bare, up_to, Leaf, tok, leaves, Covers}
+use Rattle.tree.specs.Tree.{Tree, literal, name, paren, prefix, borrowed, borrowed_mut, bare, up_to, Leaf, tok, leaves, Covers}
 use Rattle.tree.specs.Table.{holds}
 use Rattle.tree.specs.Grouped.{rank, field_name, literals, prefixes, Grouped, NoRanges}
 use Rattle.tree.proofs.Shape as shape
@@ -144,7 +144,7 @@ module _ (ts : Tokens) (read : ℕ → Rule) (reads : Reads ts read) (D : List E
           (λ n. ((omega (arith, (g n).1.0, floor_top), (g n).0), omega arith)))
       go o E q (inr i) =
           operand ts read reads 255 (omega arith) (complete o REF_EXPR give) Lefts E q
-          (λ t E' q' e c g. close Tight o REF_EXPR (both (both (tk AMP) (tk MUT_KW)) (whole t)) (tok AMP ∷ tok MUT_KW ∷ leaves t) (borrowedMut t) E' q' i.0 (in_more false (both (tk AMP) (tk MUT_KW)) (whole t) D E E' i.1 e) (covers_append ts p q q' (tok AMP ∷ tok MUT_KW ∷ []) (leaves t) i.2 c) refl refl (λ sh. refl)
+          (λ t E' q' e c g. close Tight o REF_EXPR (both (both (tk AMP) (tk MUT_KW)) (whole t)) (tok AMP ∷ tok MUT_KW ∷ leaves t) (borrowed_mut t) E' q' i.0 (in_more false (both (tk AMP) (tk MUT_KW)) (whole t) D E E' i.1 e) (covers_append ts p q q' (tok AMP ∷ tok MUT_KW ∷ []) (leaves t) i.2 c) refl refl (λ sh. refl)
           (λ n. ((omega (arith, (g n).1.0, floor_top), (g n).0), omega arith)))
 
   -- a leading range, which a list without ranges does not have

@@ -9,7 +9,7 @@ use Rattle.event.specs.Event.{Event, start, finish, token, split, spent, named}
 use Rattle.demand.specs.Steps.{Step, enter, leave, taken, parted}
 use Rattle.demand.proofs.Pass as whole
 use Rattle.demand.proofs.Pass.{chain, pass}
-use Rattle.tree.proofs.Shape.{Shape, nil, tok, both, node, led, ext, Ending, shut, unshut, atDot, atTwo, ends, end_steps, preceding, size, reach, root, code, steps, Rooted, Sound, size_is, root_name, root_flag, front, back, code_is, front_is, back_is}
+use Rattle.tree.proofs.Shape.{Shape, nil, tok, both, node, led, ext, Ending, shut, unshut, at_dot, at_two, ends, end_steps, preceding, size, reach, root, code, steps, Rooted, Sound, size_is, root_name, root_flag, front, back, code_is, front_is, back_is}
 
 -- a start entered before
 abbrev gone : Event
@@ -56,8 +56,8 @@ step_dropped n l = ap (λ (r : List ℕ × List Event). map enter (r.0 ++ []) ++
 step_ends : (z : Ending) (n : ℕ) (l : List Event) → pass (length (ends z) + n) false (ends z ++ l) ≡ end_steps z ++ pass n false l
 step_ends shut n l = ap (λ (m : ℕ). pass m false (finish ∷ l)) (omega arith) ∙ step_finish n l
 step_ends unshut n l = ap (λ (m : ℕ). pass m false l) (omega arith)
-step_ends atDot n l = ap (λ (m : ℕ). pass m false (split true ∷ finish ∷ l)) (omega arith) ∙ step_split (suc n) true (finish ∷ l) ∙ ap (λ (z : List Step). parted true ∷ z) (step_dropped n l)
-step_ends atTwo n l = ap (λ (m : ℕ). pass m false (split false ∷ finish ∷ l)) (omega arith) ∙ step_split (suc n) false (finish ∷ l) ∙ ap (λ (z : List Step). parted false ∷ z) (step_dropped n l)
+step_ends at_dot n l = ap (λ (m : ℕ). pass m false (split true ∷ finish ∷ l)) (omega arith) ∙ step_split (suc n) true (finish ∷ l) ∙ ap (λ (z : List Step). parted true ∷ z) (step_dropped n l)
+step_ends at_two n l = ap (λ (m : ℕ). pass m false (split false ∷ finish ∷ l)) (omega arith) ∙ step_split (suc n) false (finish ∷ l) ∙ ap (λ (z : List Step). parted false ∷ z) (step_dropped n l)
 
 -- a chain that goes beyond b
 chain_skip : (b l : List Event) (j : ℕ) → chain (b ++ l) (suc (length b + j)) ≡ ((chain l (suc j)).0, b ++ (chain l (suc j)).1)

@@ -8,7 +8,7 @@ use lib.Dec.{eqb}
 use borrow.Author.Tests.{eqb-true}
 use Rattle.base.specs.Base.{whether}
 use Rattle.input.specs.SyntaxKind.{IDENT, INT_NUMBER, FLOAT_NUMBER, STRING, TRUE_KW, FALSE_KW, MUT_KW, L_PAREN, R_PAREN, L_BRACK, DOT, QUESTION, COLON2, STAR, BANG, MINUS}
-use Rattle.tree.specs.Tree.{Tree, literal, name, paren, prefix, borrowed, borrowedMut, binary, cast, bare, up_to, from, between, call, index, try, field, method, await, two_fields, lone, Stem, dotted, pointed, Args, nothing, last, more, Leaf, tok, float, path, leaves, stem_leaves}
+use Rattle.tree.specs.Tree.{Tree, literal, name, paren, prefix, borrowed, borrowed_mut, binary, cast, bare, up_to, from, between, call, index, try, field, method, await, two_fields, lone, Stem, dotted, pointed, Args, nothing, last, more, Leaf, tok, float, path, leaves, stem_leaves}
 use Rattle.tree.specs.Table.{holds}
 use Rattle.tree.specs.Grouped.{rank, field_name, literals, prefixes, names, Grouped, GroupedStem}
 use Rattle.tree.proofs.Again.{head_of, power, right_power}
@@ -21,7 +21,7 @@ unfoldable mutual
   Plain (paren t) = Plain t
   Plain (prefix op t) = Plain t
   Plain (borrowed t) = Plain t
-  Plain (borrowedMut t) = Plain t
+  Plain (borrowed_mut t) = Plain t
   Plain (binary op l r) = Plain l × Plain r
   Plain (cast l n) = Plain l
   Plain (bare op) = ⊥
@@ -53,7 +53,7 @@ unfoldable mutual
   size (paren t) = suc (size t)
   size (prefix op t) = suc (size t)
   size (borrowed t) = suc (size t)
-  size (borrowedMut t) = suc (size t)
+  size (borrowed_mut t) = suc (size t)
   size (binary op l r) = suc (size l + size r)
   size (cast l n) = suc (size l)
   size (bare op) = 1
@@ -86,7 +86,7 @@ unfoldable mutual
   spine (paren t) = 0
   spine (prefix op t) = 0
   spine (borrowed t) = 0
-  spine (borrowedMut t) = 0
+  spine (borrowed_mut t) = 0
   spine (binary op l r) = suc (spine l)
   spine (cast l n) = suc (spine l)
   spine (bare op) = 0
@@ -119,7 +119,7 @@ mutual
   spine_small (paren t) = omega arith
   spine_small (prefix op t) = omega arith
   spine_small (borrowed t) = omega arith
-  spine_small (borrowedMut t) = omega arith
+  spine_small (borrowed_mut t) = omega arith
   spine_small (binary op l r) = omega (arith, spine_small l)
   spine_small (cast l n) = omega (arith, spine_small l)
   spine_small (bare op) = omega arith
@@ -166,7 +166,7 @@ limit (name n) = 0
 limit (paren t) = 0
 limit (prefix op t) = 255
 limit (borrowed t) = 255
-limit (borrowedMut t) = 255
+limit (borrowed_mut t) = 255
 limit (binary op l r) = right_power op
 limit (cast l n) = 13
 limit (bare op) = 0
@@ -225,7 +225,7 @@ mutual
   begins (paren t) p g r = (refl, refl)
   begins (prefix op t) p g r = by_prefix Begins op g.0 (refl, refl) (refl, refl) (refl, refl)
   begins (borrowed t) p g r = (refl, refl)
-  begins (borrowedMut t) p g r = (refl, refl)
+  begins (borrowed_mut t) p g r = (refl, refl)
   begins (binary op l s) p g r = begin_append (leaves l) _ r (begins l p.0 g.3 _)
   begins (cast l n) p g r = begin_append (leaves l) _ r (begins l p g.1 _)
   begins (bare op) p g r = absurd p

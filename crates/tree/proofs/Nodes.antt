@@ -86,7 +86,7 @@ module _ (ts : Tokens) where
   pub precede_wp : {A : Type 0} (m : CompletedMarker) (f : Marker → Prog A) (R : Post A) (c : Shape) (D E : List Event) (q : ℕ) → Rooted c → E ≡ D ++ code c 0 → m.0 ≡ length D + root c
       → ((o : Marker) → o.0 ≡ length (D ++ code c (reach c)) → Wp ts (f o) R ((D ++ code c (reach c)) ++ (event.start live 0 true ∷ [])) q) → Wp ts (precede m f) R E q
   precede_wp m f R c D E q r e w k =
-      let led-is : (D ++ front c) ++ (event.start (named (root_name c)) (suc (length (back c))) (root_flag c) ∷ back c) ≡ D ++ code c (reach c) =
+      let led_is : (D ++ front c) ++ (event.start (named (root_name c)) (suc (length (back c))) (root_flag c) ∷ back c) ≡ D ++ code c (reach c) =
       append_assoc D (front c) _ ∙ ap (λ (i : ℕ). D ++ (front c ++ (event.start (named (root_name c)) i (root_flag c) ∷ back c))) (sym (back_is c r)) ∙ ap (λ (l : List Event). D ++ l) (sym (code_is c (reach c) r)) in (
         D ++ front c,
         back c,
@@ -94,7 +94,7 @@ module _ (ts : Tokens) where
         root_flag c,
         e ∙ ap (λ (l : List Event). D ++ l) (code_is c 0 r) ∙ sym (append_assoc D (front c) _),
         w ∙ ap (λ (i : ℕ). length D + i) (sym (front_is c r)) ∙ sym (length-append D (front c)),
-        λ o v. subst (λ (l : List Event). Wp ts (f o) R (l ++ (event.start live 0 true ∷ [])) q) (sym led-is) (k o (v ∙ ap length led-is)),
+        λ o v. subst (λ (l : List Event). Wp ts (f o) R (l ++ (event.start live 0 true ∷ [])) q) (sym led_is) (k o (v ∙ ap length led_is)),
       )
 
   pub lead_wp : (m : CompletedMarker) (k : ℕ) (c : Shape) (D E : List Event) (q : ℕ) → Rooted c → E ≡ D ++ code c 0 → m.0 ≡ length D + root c

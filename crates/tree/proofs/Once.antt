@@ -14,7 +14,7 @@ use Rattle.input.specs.Input.{Tokens, kind_at, present, follow, parts_of, is_glu
 use Rattle.input.specs.declared.Checked.{Checked}
 use Rattle.input.specs.declared.Checked.TheVariants as checked
 use Rattle.input.proofs.Laws.{both_true, stands_says, raw_bounds}
-use Rattle.tree.specs.Tree.{Tree, literal, name, paren, prefix, borrowed, borrowedMut, binary, cast, bare, up_to, from, between, call, index, try, field, method, await, two_fields, lone, Stem, dotted, pointed, Args, nothing, last, more, Leaf, tok, float, leaves, stem_leaves, arg_leaves, Covers, enter, raw, taken, leave, node_over, name_ref, path_steps, flat, stem_steps, arg_steps}
+use Rattle.tree.specs.Tree.{Tree, literal, name, paren, prefix, borrowed, borrowed_mut, binary, cast, bare, up_to, from, between, call, index, try, field, method, await, two_fields, lone, Stem, dotted, pointed, Args, nothing, last, more, Leaf, tok, float, leaves, stem_leaves, arg_leaves, Covers, enter, raw, taken, leave, node_over, name_ref, path_steps, flat, stem_steps, arg_steps}
 use Rattle.tree.proofs.Measures.{size, stem_size, some_size, Each, each_left, each_right}
 use Rattle.tree.proofs.Undo.{Item, whole, two, as_tree, node_of, undo}
 use Rattle.tree.proofs.OneTree.{Small, SmallStem, SmallArgs, item_of, is_tree, path_back, raw_back, Undoes, paren_node, prefix_node, mut_node, borrow_node, binary_node, cast_node, bare_node, up_node, from_node, between_node, call_node, index_node, try_node, method_node, await_node, field_node, lone_node, half_node, two_node}
@@ -42,7 +42,7 @@ module _ (n : ℕ) (u : Undoes n (undo n)) where
   trees_back (paren t) h m r = ap (undo (suc n)) (over PAREN_EXPR (taken L_PAREN ∷ (flat t ++ (taken R_PAREN ∷ []))) r ∙ ap (λ (l : List ℕ). enter PAREN_EXPR ∷ taken L_PAREN ∷ l) (append_assoc (flat t) (taken R_PAREN ∷ []) (leave ∷ r))) ∙ paren_node n (undo n) u r t (omega arith) m
   trees_back (prefix op t) h m r = ap (undo (suc n)) (over PREFIX_EXPR (taken op ∷ flat t) r) ∙ prefix_node n (undo n) u r op t m.0 (omega arith) m.1
   trees_back (borrowed t) h m r = ap (undo (suc n)) (over REF_EXPR (taken AMP ∷ flat t) r) ∙ borrow_node n (undo n) u r t (omega arith) m
-  trees_back (borrowedMut t) h m r = ap (undo (suc n)) (over REF_EXPR (taken AMP ∷ taken MUT_KW ∷ flat t) r) ∙ mut_node n (undo n) u r t (omega arith) m
+  trees_back (borrowed_mut t) h m r = ap (undo (suc n)) (over REF_EXPR (taken AMP ∷ taken MUT_KW ∷ flat t) r) ∙ mut_node n (undo n) u r t (omega arith) m
   trees_back (binary op a b) h m r = ap (undo (suc n)) (over_two BIN_EXPR (flat a) (taken op ∷ flat b) r) ∙ binary_node n (undo n) u r op a b m.0 (omega arith) (omega arith) m.1 m.2
   trees_back (cast a k) h m r =
       ap (undo (suc n)) (over_two CAST_EXPR (flat a) (taken AS_KW ∷ node_over PATH_TYPE (path_steps k)) r ∙ ap (λ (l : List ℕ). enter CAST_EXPR ∷ (flat a ++ (taken AS_KW ∷ l))) (over PATH_TYPE (path_steps k) (leave ∷ r)))
@@ -94,7 +94,7 @@ mutual
   small_of (paren t) f = small_of t (each_left Kind (leaves t) _ f.1)
   small_of (prefix op t) f = (f.0, small_of t f.1)
   small_of (borrowed t) f = small_of t f.1
-  small_of (borrowedMut t) f = small_of t f.1.1
+  small_of (borrowed_mut t) f = small_of t f.1.1
   small_of (binary op l r) f = ((each_right Kind (leaves l) _ f).0, small_of l (each_left Kind (leaves l) _ f), small_of r (each_right Kind (leaves l) _ f).1)
   small_of (cast l n) f = small_of l (each_left Kind (leaves l) _ f)
   small_of (bare op) f = f.0

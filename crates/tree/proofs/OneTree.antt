@@ -10,7 +10,7 @@ use Rattle.base.specs.Base.{whether, called}
 use Rattle.base.proofs.Laws.{whether_yes, whether_no, called_is}
 use Rattle.input.specs.SyntaxKind.{IDENT, AS_KW, MUT_KW, AWAIT_KW, L_PAREN, R_PAREN, L_BRACK, R_BRACK, COMMA, DOT, AMP, QUESTION, COLON2, PATH, PAREN_EXPR, REF_EXPR, PREFIX_EXPR, BIN_EXPR, RANGE_EXPR, CALL_EXPR, ARG_LIST, INDEX_EXPR, METHOD_CALL_EXPR, FIELD_EXPR, AWAIT_EXPR, TRY_EXPR, CAST_EXPR, PATH_TYPE, TOKEN, LEAVE, FLOAT_SPLIT, ENDS_IN_DOT}
 use Rattle.input.specs.Input.{width_of, parts_of, is_glued}
-use Rattle.tree.specs.Tree.{Tree, literal, name, paren, prefix, borrowed, borrowedMut, binary, cast, bare, up_to, from, between, call, index, try, field, method, await, two_fields, lone, Stem, dotted, pointed, Args, nothing, last, more, enter, raw, taken, leave, node_over, name_ref, segment, path_steps, flat, stem_steps, arg_steps}
+use Rattle.tree.specs.Tree.{Tree, literal, name, paren, prefix, borrowed, borrowed_mut, binary, cast, bare, up_to, from, between, call, index, try, field, method, await, two_fields, lone, Stem, dotted, pointed, Args, nothing, last, more, enter, raw, taken, leave, node_over, name_ref, segment, path_steps, flat, stem_steps, arg_steps}
 use Rattle.tree.proofs.Measures.{size, stem_size, arg_size}
 use Rattle.tree.proofs.Undo.{Item, whole, point, two, as_tree, head_n, kind_from, raw_from, path_of, Back, tree_of, stem_by, stem_of, end_of, field_by, field_of, args_of, list_of, ref_of, bin_of, cast_of, range_of, node_of}
 
@@ -22,7 +22,7 @@ unfoldable mutual
   Small (paren t) = Small t
   Small (prefix op t) = (op < 256) × Small t
   Small (borrowed t) = Small t
-  Small (borrowedMut t) = Small t
+  Small (borrowed_mut t) = Small t
   Small (binary op l r) = (op < 256) × Small l × Small r
   Small (cast l n) = Small l
   Small (bare op) = op < 256
@@ -54,7 +54,7 @@ item_of (name n) = whole (name n)
 item_of (paren t) = whole (paren t)
 item_of (prefix op t) = whole (prefix op t)
 item_of (borrowed t) = whole (borrowed t)
-item_of (borrowedMut t) = whole (borrowedMut t)
+item_of (borrowed_mut t) = whole (borrowed_mut t)
 item_of (binary op l r) = whole (binary op l r)
 item_of (cast l n) = whole (cast l n)
 item_of (bare op) = whole (bare op)
@@ -77,7 +77,7 @@ is_tree (name n) = refl
 is_tree (paren t) = refl
 is_tree (prefix op t) = refl
 is_tree (borrowed t) = refl
-is_tree (borrowedMut t) = refl
+is_tree (borrowed_mut t) = refl
 is_tree (binary op l r) = refl
 is_tree (cast l n) = refl
 is_tree (bare op) = refl
@@ -101,7 +101,7 @@ begins (name n) z = omega arith
 begins (paren t) z = omega arith
 begins (prefix op t) z = omega arith
 begins (borrowed t) z = omega arith
-begins (borrowedMut t) z = omega arith
+begins (borrowed_mut t) z = omega arith
 begins (binary op l r) z = omega arith
 begins (cast l n) z = omega arith
 begins (bare op) z = omega arith
@@ -155,7 +155,7 @@ dot_behind f rd (name n) z = refl
 dot_behind f rd (paren t) z = refl
 dot_behind f rd (prefix op t) z = refl
 dot_behind f rd (borrowed t) z = refl
-dot_behind f rd (borrowedMut t) z = refl
+dot_behind f rd (borrowed_mut t) z = refl
 dot_behind f rd (binary op l r) z = refl
 dot_behind f rd (cast l n) z = refl
 dot_behind f rd (bare op) z = refl
@@ -178,7 +178,7 @@ field_behind f rd (name n) z = refl
 field_behind f rd (paren t) z = refl
 field_behind f rd (prefix op t) z = refl
 field_behind f rd (borrowed t) z = refl
-field_behind f rd (borrowedMut t) z = refl
+field_behind f rd (borrowed_mut t) z = refl
 field_behind f rd (binary op l r) z = refl
 field_behind f rd (cast l n) z = refl
 field_behind f rd (bare op) z = refl
@@ -271,7 +271,7 @@ module _ (n : ℕ) (rd : Back) (ih : Undoes n rd) where
     unfolding node_of whether
     prefix_node op t o h m = sym (called_is _ (sym (tree_back t h m (leave ∷ r))) (ap (λ (k : ℕ). (whole (prefix k t), r)) (sym (kind_back op o))))
 
-    pub mut_node : (t : Tree) → size t ≤ n → Small t → node REF_EXPR (taken AMP ∷ taken MUT_KW ∷ (flat t ++ (leave ∷ r))) ≡ (whole (borrowedMut t), r)
+    pub mut_node : (t : Tree) → size t ≤ n → Small t → node REF_EXPR (taken AMP ∷ taken MUT_KW ∷ (flat t ++ (leave ∷ r))) ≡ (whole (borrowed_mut t), r)
     unfolding node_of ref_of whether
     mut_node t h m = sym (whether_yes _ _ (eq-eqb (taken MUT_KW) (taken MUT_KW) refl) (called_is _ (sym (tree_back t h m (leave ∷ r))) refl))
 

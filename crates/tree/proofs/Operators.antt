@@ -17,7 +17,7 @@ use Rattle.operators.specs.TokenSet.{among}
 use Rattle.operators.specs.Strength.{left_op, assign_op, not_an_op, or_op, pipe_op, r_angle_op, l_angle_op, amp_op, eq_op, dot_op, bang_op, arith_op, op_of, current_op, on_side, right_of, is_range}
 use Rattle.input.proofs.Laws.{both_true}
 use Rattle.tree.specs.Tree.{Tree}
-use Rattle.tree.specs.Table.{Associativity, leftToRight, rightToLeft, requireParentheses, table, holds, has_operator, place_in, place, side_in, side, unary}
+use Rattle.tree.specs.Table.{Associativity, left_to_right, right_to_left, require_parentheses, table, holds, has_operator, place_in, place, side_in, side, unary}
 use Rattle.tree.specs.Grouped.{rank, LeftFits, RightFits, FitsLeft, FitsRight, IsBinary}
 
 -- the loosest row of what is read at strength b; above 12 no operator is
@@ -48,7 +48,7 @@ pub place_range : place DOT2 ≡ 16
 unfolding place place_in table has_operator holds whether
 place_range = refl
 
-pub side_as : side AS_KW ≡ leftToRight
+pub side_as : side AS_KW ≡ left_to_right
 unfolding side side_in table has_operator holds whether
 side_as = refl
 
@@ -88,13 +88,13 @@ module _ (k st : ℕ) (p : place k + st ≡ 18) (l : 3 ≤ st) (h : st ≤ 11) (
         },
       ))
 
-  left_op_lem : side k ≡ leftToRight → Known (left_op k st)
-  left_op_lem q = leftward leftToRight q (λ t. (λ x. omega arith, λ x. omega (arith, floor_at (st + 1) (omega arith))))
+  left_op_lem : side k ≡ left_to_right → Known (left_op k st)
+  left_op_lem q = leftward left_to_right q (λ t. (λ x. omega arith, λ x. omega (arith, floor_at (st + 1) (omega arith))))
 
-  chain_op : side k ≡ requireParentheses → Known (left_op k st)
-  chain_op q = leftward requireParentheses q (λ t. (λ x. omega arith, λ x. omega (arith, floor_at (st + 1) (omega arith))))
+  chain_op : side k ≡ require_parentheses → Known (left_op k st)
+  chain_op q = leftward require_parentheses q (λ t. (λ x. omega arith, λ x. omega (arith, floor_at (st + 1) (omega arith))))
 
-assign_op_lem : (k : ℕ) → place k ≡ 17 → side k ≡ rightToLeft → eqb k AS_KW ≡ false → among k (DOT2 ∷ DOT2EQ ∷ []) ≡ false → Known (assign_op k)
+assign_op_lem : (k : ℕ) → place k ≡ 17 → side k ≡ right_to_left → eqb k AS_KW ≡ false → among k (DOT2 ∷ DOT2EQ ∷ []) ≡ false → Known (assign_op k)
 unfolding right_of on_side is_range
 assign_op_lem k p q a r =
     inr (inr (

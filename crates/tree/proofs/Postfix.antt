@@ -198,11 +198,11 @@ module _ (ts : Tokens) (D : List Event) (p : ℕ) where
 
   named_wp : (o : Marker) (E : List Event) (a q : ℕ) → Stemmed a o E q → is_method ts a ≡ false → is_field_name (kind_at ts q) ≡ true → Wp ts (named_field o) Base E q
   unfolding named_field shape.shape leaves Grouped rank field_name
-  named_wp o E a q i no-method f =
+  named_wp o E a q i no_method f =
       let k : ℕ = kind_at ts q in
       after ts (leaf NAME_REF) _ (Makes ts (name_shape k) (tok k ∷ []) E q) Base E q (leaf_wp ts NAME_REF k E q refl (raw_name k f))
       (λ m E' q' h. close o FIELD_EXPR (first_shape i.0) (both (link_shape i.0) (name_shape k)) (stem_leaves i.0 ++ (tok k ∷ [])) (field i.0 k) E' q' i.1
-      (in_more true (link_shape i.0) (name_shape k) (before (first_shape i.0)) E E' i.2 h.0) (covers_append ts p q q' (stem_leaves i.0) (tok k ∷ []) i.3 h.2) refl refl (λ sh. refl) (λ n. ((is_name k f, i.4 n), (omega arith, λ e c. not_method ts q (subst (λ (x : ℕ). is_method ts x ≡ false) (sym i.5) no-method) e (subst (λ (x : ℕ). eqb (kind_at ts x) L_PAREN ≡ true) (covers_end ts q k q' h.2 ∙ ap (λ (x : ℕ). q + x) (ap width_of e ∙ ident_wide)) c)))))
+      (in_more true (link_shape i.0) (name_shape k) (before (first_shape i.0)) E E' i.2 h.0) (covers_append ts p q q' (stem_leaves i.0) (tok k ∷ []) i.3 h.2) refl refl (λ sh. refl) (λ n. ((is_name k f, i.4 n), (omega arith, λ e c. not_method ts q (subst (λ (x : ℕ). is_method ts x ≡ false) (sym i.5) no_method) e (subst (λ (x : ℕ). eqb (kind_at ts x) L_PAREN ≡ true) (covers_end ts q k q' h.2 ∙ ap (λ (x : ℕ). q + x) (ap width_of e ∙ ident_wide)) c)))))
 
   -- a float that ends in a dot, and one that is two names
   dot_code : (s : Stem) → before (first_shape s) ++ (event.start (event.named FIELD_EXPR) 0 true ∷ (code (link_shape s) 0 ++ (event.split true ∷ event.finish ∷ []))) ≡ D ++ code (shape.shape (lone s)) 0
@@ -244,8 +244,8 @@ module _ (ts : Tokens) (D : List Event) (p : ℕ) where
 
   field_wp : (b : Bool) (m : CompletedMarker) (E : List Event) (q : ℕ) → Stands b m E q → is_method ts (name_at ts b q) ≡ false → Wp ts (field_expr ts b m) Goes E q
   unfolding field_expr rule.field no_field then onward
-  field_wp b m E q h no-method = after ts (dotted b m) _ (Stemmed (name_at ts b q)) Goes E q (dotted_wp b m E q h)
-      (λ o E' q' i. bound_by (At E' q') _ _ (whether_by (At E' q') _ _ _ (λ f. onward_wp (named_field o) E' q' (named_wp o E' (name_at ts b q) q' i no-method f)) (λ _. whether_by (At E' q') _ _ _ (λ _. float_wp o E' (name_at ts b q) q' i) (λ _. tt))))
+  field_wp b m E q h no_method = after ts (dotted b m) _ (Stemmed (name_at ts b q)) Goes E q (dotted_wp b m E q h)
+      (λ o E' q' i. bound_by (At E' q') _ _ (whether_by (At E' q') _ _ _ (λ f. onward_wp (named_field o) E' q' (named_wp o E' (name_at ts b q) q' i no_method f)) (λ _. whether_by (At E' q') _ _ _ (λ _. float_wp o E' (name_at ts b q) q' i) (λ _. tt))))
     where
       At : List Event → ℕ → Turned → Type 0
       At E q x = Wp ts x Goes E q
@@ -265,8 +265,8 @@ module _ (ts : Tokens) (D : List Event) (p : ℕ) where
     dot_wp b m E q h =
         bound_by W _ _
         (whether_by W _ _ _ (λ _. onward_wp (method_call_expr ts read b m) E q (method_wp read reads b m E q h))
-        (λ no-method. bound_by W _ _ (whether_by W _ _ _ (λ _. onward_wp (await_expr b m) E q (await_wp b m E q h))
-        (λ _. whether_by W _ _ _ (λ d. dots_wp b m E q h d) (λ _. field_wp b m E q h no-method)))))
+        (λ no_method. bound_by W _ _ (whether_by W _ _ _ (λ _. onward_wp (await_expr b m) E q (await_wp b m E q h))
+        (λ _. whether_by W _ _ _ (λ d. dots_wp b m E q h d) (λ _. field_wp b m E q h no_method)))))
       where
         W : Turned → Type 0
         W x = Wp ts x Goes E q

@@ -7,7 +7,7 @@ use borrow.Author.Tests.{eqb-true}
 use Rattle.base.proofs.Cases.{whether_by}
 use Rattle.input.specs.SyntaxKind.{DOT2, DOT2EQ}
 use Rattle.input.specs.Input.{Tokens, present, width_of}
-use Rattle.tree.specs.Tree.{Tree, literal, name, paren, prefix, borrowed, borrowedMut, binary, cast, bare, up_to, from, between, call, index, try, field, method, await, two_fields, lone, Stem, dotted, pointed, Args, nothing, last, more, Leaf, tok, float, leaves, stem_leaves, arg_leaves, Covers}
+use Rattle.tree.specs.Tree.{Tree, literal, name, paren, prefix, borrowed, borrowed_mut, binary, cast, bare, up_to, from, between, call, index, try, field, method, await, two_fields, lone, Stem, dotted, pointed, Args, nothing, last, more, Leaf, tok, float, leaves, stem_leaves, arg_leaves, Covers}
 use Rattle.tree.specs.Table.{holds}
 use Rattle.tree.specs.Grouped.{ranges, Grouped, GroupedStem, GroupedArgs, NoRanges}
 use Rattle.tree.specs.Statement.{Over, Only}
@@ -43,7 +43,7 @@ mutual
   plain_of (paren t) g f = plain_of t g (each_left NoRange (leaves t) _ f.1)
   plain_of (prefix op t) g f = plain_of t g.2 f.1
   plain_of (borrowed t) g f = plain_of t g.1 f.1
-  plain_of (borrowedMut t) g f = plain_of t g.1 f.1.1
+  plain_of (borrowed_mut t) g f = plain_of t g.1 f.1.1
   plain_of (binary op l r) g f = (plain_of l g.3 (each_left NoRange (leaves l) _ f), plain_of r g.4 (each_right NoRange (leaves l) _ f).1)
   plain_of (cast l n) g f = plain_of l g.1 (each_left NoRange (leaves l) _ f)
   plain_of (bare op) g f = f.0 g

@@ -9,7 +9,7 @@ use borrow.Author.Tests.{eqb-true, leb-true, leb-false}
 use Rattle.base.specs.Base.{whether}
 use Rattle.input.specs.SyntaxKind.{AS_KW, L_PAREN, L_BRACK, DOT, QUESTION, COLON2}
 use Rattle.tree.specs.Tree.{Tree, binary}
-use Rattle.tree.specs.Table.{Associativity, unsaid, leftToRight, rightToLeft, requireParentheses, Row, table, holds, has_operator, place_in, place, side_in, side}
+use Rattle.tree.specs.Table.{Associativity, unsaid, left_to_right, right_to_left, require_parentheses, Row, table, holds, has_operator, place_in, place, side_in, side}
 use Rattle.tree.specs.Grouped.{rank, LeftFits, RightFits, FitsLeft, FitsRight, IsBinary}
 use Rattle.tree.proofs.Operators.{floor, floor_at, floor_high, place_as}
 use Rattle.tree.proofs.Again.{power, right_by, right_power}
@@ -17,9 +17,9 @@ use Rattle.tree.proofs.Again.{power, right_by, right_power}
 -- a row by its number
 abbrev pub Good : ℕ → Associativity → Type 0
 Good i unsaid = Unit {0}
-Good i leftToRight = i ≤ 16
-Good i requireParentheses = i ≤ 16
-Good i rightToLeft = i ≡ 17
+Good i left_to_right = i ≤ 16
+Good i require_parentheses = i ≤ 16
+Good i right_to_left = i ≡ 17
 
 abbrev Goods : ℕ → List Row → Type 0
 Goods i [] = Unit {0}
@@ -55,7 +55,7 @@ good_row op = subst (λ (k : ℕ). Good k (side_in op table)) (none (place_in op
 -- an operator of the table, by its side: what it asks of its left operand, and what its right one is read at
 module _ (op : ℕ) (C : Type 0) (l : Tree) where
   abbrev Rightward : Type 0
-  Rightward = side op ≡ rightToLeft → place op ≡ 17 → rank l < 17 → right_power op ≡ power op → C
+  Rightward = side op ≡ right_to_left → place op ≡ 17 → rank l < 17 → right_power op ≡ power op → C
 
   abbrev Leftward : Type 0
   Leftward = place op ≤ 16 → rank l ≤ place op → right_power op ≡ power op + 1 → C
@@ -63,9 +63,9 @@ module _ (op : ℕ) (C : Type 0) (l : Tree) where
   side_go : (s : Associativity) → side op ≡ s → Good (place op) s → LeftFits s (place op) (rank l) → Rightward → Leftward → C
   unfolding right_power right_by
   side_go unsaid q g f x y = absurd f
-  side_go leftToRight q g f x y = y g f (ap (λ (s : Associativity). right_by s (power op)) q)
-  side_go requireParentheses q g f x y = y g f (ap (λ (s : Associativity). right_by s (power op)) q)
-  side_go rightToLeft q g f x y = x q g (omega arith) (ap (λ (s : Associativity). right_by s (power op)) q)
+  side_go left_to_right q g f x y = y g f (ap (λ (s : Associativity). right_by s (power op)) q)
+  side_go require_parentheses q g f x y = y g f (ap (λ (s : Associativity). right_by s (power op)) q)
+  side_go right_to_left q g f x y = x q g (omega arith) (ap (λ (s : Associativity). right_by s (power op)) q)
 
   pub by_side : FitsLeft op l → Rightward → Leftward → C
   by_side f x y = side_go (side op) refl (good_row op) f x y
@@ -87,13 +87,13 @@ module _ (op : ℕ) (r : Tree) (o : IsBinary op) where
   right_go : (s : Associativity) → side op ≡ s → Good (place op) s → RightFits s (place op) (rank r) → rank r ≤ floor (right_power op)
   unfolding right_power right_by power
   right_go unsaid q h g = absurd g
-  right_go leftToRight q h g =
+  right_go left_to_right q h g =
       let e : right_power op ≡ 18 - place op + 1 = ap (λ (s : Associativity). right_by s (power op)) q in
       omega (arith, o.0, place_as, ap floor e, floor_at (18 - place op + 1) (omega (arith, o.0, place_as)))
-  right_go requireParentheses q h g =
+  right_go require_parentheses q h g =
       let e : right_power op ≡ 18 - place op + 1 = ap (λ (s : Associativity). right_by s (power op)) q in
       omega (arith, o.0, place_as, ap floor e, floor_at (18 - place op + 1) (omega (arith, o.0, place_as)))
-  right_go rightToLeft q h g =
+  right_go right_to_left q h g =
       let e : right_power op ≡ 18 - place op = ap (λ (s : Associativity). right_by s (power op)) q in
       omega (arith, ap floor e, floor_at (18 - place op) (omega arith))
 

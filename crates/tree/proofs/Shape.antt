@@ -9,11 +9,11 @@ use Rattle.input.specs.Input.{width_of}
 use Rattle.event.specs.Event.{Event, start, finish, token, split, spent, named}
 use Rattle.demand.specs.Steps as step
 use Rattle.demand.specs.Steps.{Step}
-use Rattle.tree.specs.Tree.{Tree, literal, name, paren, prefix, borrowed, borrowedMut, binary, cast, bare, up_to, from, between, call, index, try, field, method, await, two_fields, lone, Stem, dotted, pointed, Args, nothing, last, more}
+use Rattle.tree.specs.Tree.{Tree, literal, name, paren, prefix, borrowed, borrowed_mut, binary, cast, bare, up_to, from, between, call, index, try, field, method, await, two_fields, lone, Stem, dotted, pointed, Args, nothing, last, more}
 
 -- how a node with a first part ends: by a finish; not at all (the first start of a float that is two names); by a split that ends in a dot; by one that does not
 pub data Ending : Type 0 where
-  shut unshut atDot atTwo : Ending
+  shut unshut at_dot at_two : Ending
 
 pub data Shape : Type 0 where
   nil : Shape
@@ -31,21 +31,21 @@ pub data Shape : Type 0 where
 abbrev pub ends : Ending → List Event
 ends shut = finish ∷ []
 ends unshut = []
-ends atDot = split true ∷ finish ∷ []
-ends atTwo = split false ∷ finish ∷ []
+ends at_dot = split true ∷ finish ∷ []
+ends at_two = split false ∷ finish ∷ []
 
 abbrev pub end_steps : Ending → List Step
 end_steps shut = step.leave ∷ []
 end_steps unshut = []
-end_steps atDot = step.parted true ∷ []
-end_steps atTwo = step.parted false ∷ []
+end_steps at_dot = step.parted true ∷ []
+end_steps at_two = step.parted false ∷ []
 
 -- whether precede made the start
 abbrev pub preceding : Ending → Bool
 preceding shut = true
 preceding unshut = true
-preceding atDot = true
-preceding atTwo = false
+preceding at_dot = true
+preceding at_two = false
 
 -- how many events, how many from the root on, and how many before it
 unfoldable pub size : Shape → ℕ
@@ -205,7 +205,7 @@ outer (name n) sh = ext sh
 outer (paren t) sh = ext sh
 outer (prefix op t) sh = ext sh
 outer (borrowed t) sh = ext sh
-outer (borrowedMut t) sh = ext sh
+outer (borrowed_mut t) sh = ext sh
 outer (bare op) sh = ext sh
 outer (up_to op r) sh = ext sh
 outer (call t args) sh = ext sh
@@ -224,7 +224,7 @@ unfoldable mutual
   shape (paren t) = node PAREN_EXPR (both (both (tk L_PAREN) (outer t (shape t))) (tk R_PAREN))
   shape (prefix op t) = node PREFIX_EXPR (both (tk op) (outer t (shape t)))
   shape (borrowed t) = node REF_EXPR (both (tk AMP) (outer t (shape t)))
-  shape (borrowedMut t) = node REF_EXPR (both (both (tk AMP) (tk MUT_KW)) (outer t (shape t)))
+  shape (borrowed_mut t) = node REF_EXPR (both (both (tk AMP) (tk MUT_KW)) (outer t (shape t)))
   shape (binary op l r) = led shut BIN_EXPR (outer l (shape l)) (both (tk op) (outer r (shape r)))
   shape (cast l n) = led shut CAST_EXPR (outer l (shape l)) (both (tk AS_KW) (node PATH_TYPE (path_shape n)))
   shape (bare op) = node RANGE_EXPR (tk op)
@@ -237,13 +237,13 @@ unfoldable mutual
   shape (field s kind) = led shut FIELD_EXPR (first_shape s) (both (link_shape s) (name_shape kind))
   shape (method s args) = led shut METHOD_CALL_EXPR (first_shape s) (both (both (link_shape s) (name_shape IDENT)) (list_shape (args_shape args)))
   shape (await s) = led shut AWAIT_EXPR (first_shape s) (both (link_shape s) (tk AWAIT_KW))
-  shape (two_fields s) = led atTwo FIELD_EXPR (led unshut FIELD_EXPR (first_shape s) (link_shape s)) nil
-  shape (lone s) = led atDot FIELD_EXPR (first_shape s) (link_shape s)
+  shape (two_fields s) = led at_two FIELD_EXPR (led unshut FIELD_EXPR (first_shape s) (link_shape s)) nil
+  shape (lone s) = led at_dot FIELD_EXPR (first_shape s) (link_shape s)
 
   -- what stands before a name: a node, and its dot unless a float had it
   pub first_shape : Stem → Shape
   first_shape (dotted t) = shape t
-  first_shape (pointed s) = led atDot FIELD_EXPR (first_shape s) (link_shape s)
+  first_shape (pointed s) = led at_dot FIELD_EXPR (first_shape s) (link_shape s)
 
   pub link_shape : Stem → Shape
   link_shape (dotted t) = tk DOT
@@ -267,7 +267,7 @@ outer_rooted (name n) sh h = h
 outer_rooted (paren t) sh h = h
 outer_rooted (prefix op t) sh h = h
 outer_rooted (borrowed t) sh h = h
-outer_rooted (borrowedMut t) sh h = h
+outer_rooted (borrowed_mut t) sh h = h
 outer_rooted (bare op) sh h = h
 outer_rooted (up_to op r) sh h = h
 outer_rooted (call t args) sh h = h
@@ -289,7 +289,7 @@ mutual
   rooted (paren t) = tt
   rooted (prefix op t) = tt
   rooted (borrowed t) = tt
-  rooted (borrowedMut t) = tt
+  rooted (borrowed_mut t) = tt
   rooted (binary op l r) = outer_rooted l (shape l) (rooted l)
   rooted (cast l n) = outer_rooted l (shape l) (rooted l)
   rooted (bare op) = tt

@@ -70,13 +70,13 @@ abbrev Top : Tokens → Post (Perhaps CompletedMarker)
 Top ts = Some (Expr ts (Ends ts 1) [] 0)
 
 -- the pass writes the steps of the events first in the list
-module _ (s : State) (ev st : List ℕ) (fine-events : sound_of s ev ≡ true) (room : count_of ev s.count ≤ length st) where
+module _ (s : State) (ev st : List ℕ) (fine_events : sound_of s ev ≡ true) (room : count_of ev s.count ≤ length st) where
   abbrev ss : List Step
   ss = steps (seen s ev)
 
   counted : count_of ev s.count ≡ length ss
   unfolding steps seen
-  counted = count_is s.count ev (sound_fits s ev fine-events) ∙ sym (pass_length (length (seen s ev)) false (seen s ev) (le_refl (length (seen s ev))))
+  counted = count_is s.count ev (sound_fits s ev fine_events) ∙ sym (pass_length (length (seen s ev)) false (seen s ev) (le_refl (length (seen s ev))))
 
   first_in_lem : take (length ss) (sets st 0 (map code_of ss)) ≡ map code_of ss
   first_in_lem = ap (take (length ss)) (sets-eq (map code_of ss) st 0 (omega (arith, length-map ss code_of, counted))) ∙ take_at (map code_of ss) _ (length ss) (length-map ss code_of)
@@ -99,7 +99,7 @@ module _ (ts : Tokens) (s : State) (ev st : List ℕ) (a : Perhaps CompletedMark
   unfolding on_processed refusing
   refused_says r = tt
 
-  written_says : (fine-events : sound_of s ev ≡ true) (room : count_of ev s.count ≤ length st) → Goes (called (write_of s.count ev st) (λ n st'. (processed.Steps n fresh, replicate (length ev) 0, st')))
+  written_says : (fine_events : sound_of s ev ≡ true) (room : count_of ev s.count ≤ length st) → Goes (called (write_of s.count ev st) (λ n st'. (processed.Steps n fresh, replicate (length ev) 0, st')))
   unfolding on_processed called seen
   written_says f r =
       subst (λ (w : ℕ × List ℕ). NoErrors (take w.0 w.1) → Result ts s.pos.0 (take w.0 w.1)) (sym (written s.count ev st (sound_fits s ev f)))

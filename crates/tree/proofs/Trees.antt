@@ -4,16 +4,16 @@ use mathlib.Core.List.{List, [], ◌∷◌, ◌++◌, map, append_assoc, append-
 use Prim.Native.Nat.{ℕ, zero, suc, ◌+◌, ◌*◌}
 use Rattle.input.specs.SyntaxKind.{IDENT, AS_KW, MUT_KW, AWAIT_KW, L_PAREN, R_PAREN, L_BRACK, R_BRACK, COMMA, DOT, AMP, QUESTION, PATH_EXPR, PAREN_EXPR, REF_EXPR, PREFIX_EXPR, BIN_EXPR, RANGE_EXPR, CALL_EXPR, ARG_LIST, INDEX_EXPR, METHOD_CALL_EXPR, FIELD_EXPR, AWAIT_EXPR, TRY_EXPR, CAST_EXPR, PATH_TYPE, ENTER, TOKEN, LEAVE, FLOAT_SPLIT, ENDS_IN_DOT, WIDTH_STEP}
 use Rattle.demand.specs.Steps.{code_of}
-use Rattle.tree.specs.Tree.{Tree, literal, name, paren, prefix, borrowed, borrowedMut, binary, cast, bare, up_to, from, between, call, index, try, field, method, await, two_fields, lone, Stem, dotted, pointed, Args, nothing, last, more, taken, node_over, name_ref, flat, stem_steps, arg_steps, path_steps}
-use Rattle.tree.proofs.Shape.{Shape, nil, tok, both, node, led, ext, Ending, shut, unshut, atDot, atTwo, end_steps, steps, Rooted, Sound, path_shape, outer, shape, first_shape, link_shape, args_shape, whole, outer_rooted, rooted, first_rooted}
+use Rattle.tree.specs.Tree.{Tree, literal, name, paren, prefix, borrowed, borrowed_mut, binary, cast, bare, up_to, from, between, call, index, try, field, method, await, two_fields, lone, Stem, dotted, pointed, Args, nothing, last, more, taken, node_over, name_ref, flat, stem_steps, arg_steps, path_steps}
+use Rattle.tree.proofs.Shape.{Shape, nil, tok, both, node, led, ext, Ending, shut, unshut, at_dot, at_two, end_steps, steps, Rooted, Sound, path_shape, outer, shape, first_shape, link_shape, args_shape, whole, outer_rooted, rooted, first_rooted}
 use Rattle.tree.proofs.Paths.{path_rooted}
 
 -- the steps of a shape as numbers
 abbrev end_numbers : Ending → List ℕ
 end_numbers shut = LEAVE ∷ []
 end_numbers unshut = []
-end_numbers atDot = (FLOAT_SPLIT + ENDS_IN_DOT) ∷ []
-end_numbers atTwo = FLOAT_SPLIT ∷ []
+end_numbers at_dot = (FLOAT_SPLIT + ENDS_IN_DOT) ∷ []
+end_numbers at_two = FLOAT_SPLIT ∷ []
 
 unfoldable numbers : Shape → List ℕ
 numbers nil = []
@@ -26,8 +26,8 @@ numbers (ext c) = numbers c
 ends_are : (z : Ending) → map code_of (end_steps z) ≡ end_numbers z
 ends_are shut = refl
 ends_are unshut = refl
-ends_are atDot = refl
-ends_are atTwo = refl
+ends_are at_dot = refl
+ends_are at_two = refl
 
 numbers_are : (sh : Shape) → map code_of (steps sh) ≡ numbers sh
 unfolding steps numbers
@@ -49,7 +49,7 @@ outer_numbers (name n) sh = refl
 outer_numbers (paren t) sh = refl
 outer_numbers (prefix op t) sh = refl
 outer_numbers (borrowed t) sh = refl
-outer_numbers (borrowedMut t) sh = refl
+outer_numbers (borrowed_mut t) sh = refl
 outer_numbers (bare op) sh = refl
 outer_numbers (up_to op r) sh = refl
 outer_numbers (call t args) sh = refl
@@ -94,7 +94,7 @@ mutual
   tree_numbers (paren t) = node_form PAREN_EXPR (ap (λ (z : List ℕ). taken L_PAREN ∷ (z ++ (taken R_PAREN ∷ []))) (outer_numbers t (shape t) ∙ tree_numbers t))
   tree_numbers (prefix op t) = node_form PREFIX_EXPR (ap (λ (z : List ℕ). taken op ∷ z) (outer_numbers t (shape t) ∙ tree_numbers t))
   tree_numbers (borrowed t) = node_form REF_EXPR (ap (λ (z : List ℕ). taken AMP ∷ z) (outer_numbers t (shape t) ∙ tree_numbers t))
-  tree_numbers (borrowedMut t) = node_form REF_EXPR (ap (λ (z : List ℕ). taken AMP ∷ taken MUT_KW ∷ z) (outer_numbers t (shape t) ∙ tree_numbers t))
+  tree_numbers (borrowed_mut t) = node_form REF_EXPR (ap (λ (z : List ℕ). taken AMP ∷ taken MUT_KW ∷ z) (outer_numbers t (shape t) ∙ tree_numbers t))
   tree_numbers (binary op l r) = led_form BIN_EXPR (numbers (whole l)) _ (outer_numbers l (shape l) ∙ tree_numbers l) (ap (λ (z : List ℕ). taken op ∷ z) (outer_numbers r (shape r) ∙ tree_numbers r))
   tree_numbers (cast l n) = led_form CAST_EXPR (numbers (whole l)) _ (outer_numbers l (shape l) ∙ tree_numbers l) (ap (λ (z : List ℕ). taken AS_KW ∷ node_over PATH_TYPE z) (path_numbers n))
   tree_numbers (bare op) = refl
@@ -144,7 +144,7 @@ outer_sound (name n) sh d s = (d, s)
 outer_sound (paren t) sh d s = (d, s)
 outer_sound (prefix op t) sh d s = (d, s)
 outer_sound (borrowed t) sh d s = (d, s)
-outer_sound (borrowedMut t) sh d s = (d, s)
+outer_sound (borrowed_mut t) sh d s = (d, s)
 outer_sound (bare op) sh d s = (d, s)
 outer_sound (up_to op r) sh d s = (d, s)
 outer_sound (call t args) sh d s = (d, s)
@@ -165,7 +165,7 @@ mutual
   tree_sound (paren t) = ((tt, outer_sound t (shape t) (rooted t) (tree_sound t)), tt)
   tree_sound (prefix op t) = (tt, outer_sound t (shape t) (rooted t) (tree_sound t))
   tree_sound (borrowed t) = (tt, outer_sound t (shape t) (rooted t) (tree_sound t))
-  tree_sound (borrowedMut t) = ((tt, tt), outer_sound t (shape t) (rooted t) (tree_sound t))
+  tree_sound (borrowed_mut t) = ((tt, tt), outer_sound t (shape t) (rooted t) (tree_sound t))
   tree_sound (binary op l r) = (outer_rooted l (shape l) (rooted l), outer_sound l (shape l) (rooted l) (tree_sound l), (tt, outer_sound r (shape r) (rooted r) (tree_sound r)))
   tree_sound (cast l n) = (outer_rooted l (shape l) (rooted l), outer_sound l (shape l) (rooted l) (tree_sound l), (tt, path_sound n))
   tree_sound (bare op) = tt

@@ -5,7 +5,7 @@ use lib.ListN.{drop}
 use lib.Dec.{eqb, ltb}
 use Rattle.base.specs.Base.{whether, called}
 use Rattle.input.specs.SyntaxKind.{MUT_KW, COMMA, DOT, LITERAL, PATH_EXPR, PATH, PAREN_EXPR, REF_EXPR, PREFIX_EXPR, BIN_EXPR, RANGE_EXPR, CALL_EXPR, INDEX_EXPR, METHOD_CALL_EXPR, FIELD_EXPR, TRY_EXPR, CAST_EXPR, TOKEN, LEAVE, FLOAT_SPLIT, ENDS_IN_DOT, WIDTH_STEP}
-use Rattle.tree.specs.Tree.{Tree, literal, name, paren, prefix, borrowed, borrowedMut, binary, cast, bare, up_to, from, between, call, index, try, field, method, await, two_fields, lone, Stem, dotted, pointed, Args, nothing, last, more, enter, taken}
+use Rattle.tree.specs.Tree.{Tree, literal, name, paren, prefix, borrowed, borrowed_mut, binary, cast, bare, up_to, from, between, call, index, try, field, method, await, two_fields, lone, Stem, dotted, pointed, Args, nothing, last, more, enter, taken}
 
 -- what a node was: a tree; a field whose float ends in a dot; the inner one of two fields
 pub data Item : Type 0 where
@@ -76,7 +76,7 @@ module _ (f : ℕ) (rd : Back) where
   unfoldable pub ref_of : List ℕ → Item × List ℕ
   ref_of l =
       whether (eqb (head_n (drop 1 l)) (taken MUT_KW))
-      (λ _. called (tree_of (drop 2 l)) λ t l1. (whole (borrowedMut t), drop 1 l1))
+      (λ _. called (tree_of (drop 2 l)) λ t l1. (whole (borrowed_mut t), drop 1 l1))
       (λ _. called (tree_of (drop 1 l)) λ t l1. (whole (borrowed t), drop 1 l1))
 
   unfoldable pub bin_of : List ℕ → Item × List ℕ

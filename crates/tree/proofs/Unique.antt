@@ -10,7 +10,7 @@ use borrow.Author.Tests.{lt-ltb, le-ltb}
 use Rattle.base.specs.Base.{whether, bound, called}
 use Rattle.base.proofs.Laws.{whether_yes, whether_no}
 use Rattle.input.specs.SyntaxKind.{IDENT, INT_NUMBER, AS_KW, MUT_KW, AWAIT_KW, L_PAREN, R_PAREN, L_BRACK, R_BRACK, COMMA, DOT, AMP, QUESTION, COLON2, STAR, BANG, MINUS}
-use Rattle.tree.specs.Tree.{Tree, literal, name, paren, prefix, borrowed, borrowedMut, binary, cast, bare, up_to, from, between, call, index, try, field, method, await, two_fields, lone, Stem, dotted, pointed, Args, nothing, last, more, Leaf, tok, float, rest, path, leaves, stem_leaves, arg_leaves}
+use Rattle.tree.specs.Tree.{Tree, literal, name, paren, prefix, borrowed, borrowed_mut, binary, cast, bare, up_to, from, between, call, index, try, field, method, await, two_fields, lone, Stem, dotted, pointed, Args, nothing, last, more, Leaf, tok, float, rest, path, leaves, stem_leaves, arg_leaves}
 use Rattle.tree.specs.Table.{Associativity, table, holds, has_operator, place_in, place}
 use Rattle.tree.specs.Grouped.{rank, field_name, LeftFits, FitsLeft, prefixes, literals, names, Grouped, GroupedStem, GroupedArgs}
 use Rattle.tree.proofs.Operators.{floor, floor_at, floor_low, floor_top, place_as, side_as}
@@ -68,7 +68,7 @@ any_rank (name n) p g = omega (arith, floor_low 1)
 any_rank (paren t) p g = omega (arith, floor_low 1)
 any_rank (prefix op t) p g = omega (arith, floor_low 1)
 any_rank (borrowed t) p g = omega (arith, floor_low 1)
-any_rank (borrowedMut t) p g = omega (arith, floor_low 1)
+any_rank (borrowed_mut t) p g = omega (arith, floor_low 1)
 any_rank (binary op l r) p g = omega (arith, (numbers op l g.0 g.1).high, floor_at 1 (omega arith))
 any_rank (cast l n) p g = omega (arith, place_as, floor_at 1 (omega arith))
 any_rank (bare op) p g = absurd p
@@ -99,7 +99,7 @@ weak_limit (await s) p g b x top h k w = absurd (omega arith)
 weak_limit (two_fields s) p g b x top h k w = absurd (omega arith)
 weak_limit (prefix op t) p g b x top h k w = omega arith
 weak_limit (borrowed t) p g b x top h k w = omega arith
-weak_limit (borrowedMut t) p g b x top h k w = omega arith
+weak_limit (borrowed_mut t) p g b x top h k w = omega arith
 weak_limit (binary op l r) p g b x top h k w = let o = numbers op l g.0 g.1 in omega (arith, o.right_least, floor_power b (place op) (omega (arith, o.low)) o.high h)
 weak_limit (cast l n) p g b x top h k w = omega (arith, place_as, floor_power b (place AS_KW) (omega (arith, place_as)) (omega (arith, place_as)) h)
 weak_limit (bare op) p g b x top h k w = absurd p
@@ -129,7 +129,7 @@ left_limit (await s) op p g f h k = absurd (omega arith)
 left_limit (two_fields s) op p g f h k = absurd (omega arith)
 left_limit (prefix o t) op p g f h k = omega arith
 left_limit (borrowed t) op p g f h k = omega arith
-left_limit (borrowedMut t) op p g f h k = omega arith
+left_limit (borrowed_mut t) op p g f h k = omega arith
 left_limit (binary op2 l2 r2) op p g f h k = next_weaker op op2 l2 r2 h f g.1 g.0
 left_limit (cast l n) op p g f h k = omega arith
 left_limit (bare o) op p g f h k = absurd p
@@ -229,9 +229,9 @@ module _ (n : ℕ) (rd : Read) (ih : Reads n rd) where
       let e : (k : ℕ) → ◌≡◌ {A = Tree × List Leaf} (prefix k (rd 255 (leaves t ++ r)).0, (rd 255 (leaves t ++ r)).1) (prefix k t, r) = λ k. ap (λ (z : Tree × List Leaf). (prefix k z.0, z.1)) h in
       by_prefix (λ k. first_of rd (tok k ∷ (leaves t ++ r)) ≡ (prefix k t, r)) op p (e STAR) (e BANG) (e MINUS)
 
-  first_mut : (t : Tree) (r : List Leaf) → rd 255 (leaves t ++ r) ≡ (t, r) → first_of rd (tok AMP ∷ tok MUT_KW ∷ (leaves t ++ r)) ≡ (borrowedMut t, r)
+  first_mut : (t : Tree) (r : List Leaf) → rd 255 (leaves t ++ r) ≡ (t, r) → first_of rd (tok AMP ∷ tok MUT_KW ∷ (leaves t ++ r)) ≡ (borrowed_mut t, r)
   unfolding first_of whether bound called
-  first_mut t r h = ap (λ (z : Tree × List Leaf). (borrowedMut z.0, z.1)) h
+  first_mut t r h = ap (λ (z : Tree × List Leaf). (borrowed_mut z.0, z.1)) h
 
   first_borrow : (t : Tree) (r : List Leaf) → eqb (head_of (leaves t ++ r)) MUT_KW ≡ false → rd 255 (leaves t ++ r) ≡ (t, r) → first_of rd (tok AMP ∷ (leaves t ++ r)) ≡ (borrowed t, r)
   unfolding first_of bound called
@@ -298,7 +298,7 @@ module _ (n : ℕ) (rd : Read) (ih : Reads n rd) where
         (first_paren t r (ih t (omega arith) p g 1 (omega arith) (any_rank t p g) (tok R_PAREN ∷ r) (weak_paren r)))
     reach (prefix op t) z p g b top h K r a = along b K (prefix op t) _ _ r refl (omega arith) (first_prefix op t r g.0 (ih t (omega arith) p g.2 255 (omega arith) (omega (arith, g.1, floor_top)) r (tight_weak r a.colons (a.weak (omega arith)))))
     reach (borrowed t) z p g b top h K r a = along b K (borrowed t) _ _ r refl (omega arith) (first_borrow t r (begins t p g.1 r).1 (ih t (omega arith) p g.1 255 (omega arith) (omega (arith, g.0, floor_top)) r (tight_weak r a.colons (a.weak (omega arith)))))
-    reach (borrowedMut t) z p g b top h K r a = along b K (borrowedMut t) _ _ r refl (omega arith) (first_mut t r (ih t (omega arith) p g.1 255 (omega arith) (omega (arith, g.0, floor_top)) r (tight_weak r a.colons (a.weak (omega arith)))))
+    reach (borrowed_mut t) z p g b top h K r a = along b K (borrowed_mut t) _ _ r refl (omega arith) (first_mut t r (ih t (omega arith) p g.1 255 (omega arith) (omega (arith, g.0, floor_top)) r (tight_weak r a.colons (a.weak (omega arith)))))
     reach (binary op l s) z p g b top h K r a =
         let o = numbers op l g.0 g.1 in
         onto b K (spine l) _ (leaves l ++ (tok op ∷ (leaves s ++ r))) _ (append_assoc (leaves l) (tok op ∷ leaves s) r)

@@ -2,8 +2,8 @@
 use Rattle.std.specs.Prelude.{ℕ, ◌≤◌, ◌<◌, ◌≡◌, true, false, List, [], ◌∷◌}
 use Rattle.input.specs.SyntaxKind.{EOF, IDENT, INT_NUMBER, FLOAT_NUMBER, STRING, TRUE_KW, FALSE_KW, AS_KW, STAR, MINUS, BANG, DOT2, DOT2EQ}
 use Rattle.input.specs.Input.{Tokens, present}
-use Rattle.tree.specs.Tree.{Tree, literal, name, paren, prefix, borrowed, borrowedMut, binary, cast, bare, up_to, from, between, call, index, try, field, method, await, two_fields, lone, Stem, dotted, pointed, Args, nothing, last, more}
-use Rattle.tree.specs.Table.{Associativity, unsaid, leftToRight, rightToLeft, requireParentheses, holds, place, side, paths, method_calls, field_expressions, calls_and_indexing, question_mark, unary}
+use Rattle.tree.specs.Tree.{Tree, literal, name, paren, prefix, borrowed, borrowed_mut, binary, cast, bare, up_to, from, between, call, index, try, field, method, await, two_fields, lone, Stem, dotted, pointed, Args, nothing, last, more}
+use Rattle.tree.specs.Table.{Associativity, unsaid, left_to_right, right_to_left, require_parentheses, holds, place, side, paths, method_calls, field_expressions, calls_and_indexing, question_mark, unary}
 
 -- The row of the table that a tree's outermost form stands in: the smaller the tighter. Literals and parentheses, which the table leaves out, hold together as paths do; `.await` stands with fields.
 unfoldable pub rank : Tree → ℕ
@@ -12,7 +12,7 @@ rank (name n) = paths
 rank (paren t) = paths
 rank (prefix op t) = unary
 rank (borrowed t) = unary
-rank (borrowedMut t) = unary
+rank (borrowed_mut t) = unary
 rank (binary op l r) = place op
 rank (cast l n) = place AS_KW
 rank (bare op) = place DOT2
@@ -31,15 +31,15 @@ rank (lone s) = field_expressions
 -- What the associativity column asks of an operator's operands, of row i the operator and j the operand. Left to right: the left operand may hold an operator of the same row, the right one may not. Where the Reference requires parentheses we read a chain to the left.
 abbrev pub LeftFits : Associativity → ℕ → ℕ → Type 0
 LeftFits unsaid i j = ⊥
-LeftFits leftToRight i j = j ≤ i
-LeftFits requireParentheses i j = j ≤ i
-LeftFits rightToLeft i j = j < i
+LeftFits left_to_right i j = j ≤ i
+LeftFits require_parentheses i j = j ≤ i
+LeftFits right_to_left i j = j < i
 
 abbrev pub RightFits : Associativity → ℕ → ℕ → Type 0
 RightFits unsaid i j = ⊥
-RightFits leftToRight i j = j < i
-RightFits requireParentheses i j = j < i
-RightFits rightToLeft i j = j ≤ i
+RightFits left_to_right i j = j < i
+RightFits require_parentheses i j = j < i
+RightFits right_to_left i j = j ≤ i
 
 abbrev pub FitsLeft : ℕ → Tree → Type 0
 FitsLeft op l = LeftFits (side op) (place op) (rank l)
@@ -66,7 +66,7 @@ field_name (name n) = EOF
 field_name (paren t) = EOF
 field_name (prefix op t) = EOF
 field_name (borrowed t) = EOF
-field_name (borrowedMut t) = EOF
+field_name (borrowed_mut t) = EOF
 field_name (binary op l r) = EOF
 field_name (cast l n) = EOF
 field_name (bare op) = EOF
@@ -105,7 +105,7 @@ unfoldable mutual
   Grouped (paren t) = Grouped t
   Grouped (prefix op t) = (holds op prefixes ≡ true) × NoOperator t × Grouped t
   Grouped (borrowed t) = NoOperator t × Grouped t
-  Grouped (borrowedMut t) = NoOperator t × Grouped t
+  Grouped (borrowed_mut t) = NoOperator t × Grouped t
   Grouped (binary op l r) = IsBinary op × FitsLeft op l × FitsRight op r × Grouped l × Grouped r
   Grouped (cast l n) = FitsLeft AS_KW l × Grouped l
   Grouped (bare op) = holds op ranges ≡ true

@@ -5,11 +5,11 @@ use Rattle.input.specs.SyntaxKind.{AS_KW, AMP, PIPE, PLUS, MINUS, STAR, SLASH, P
 
 -- the associativity column
 pub data Associativity : Type 0 where
-  unsaid leftToRight rightToLeft requireParentheses : Associativity
+  unsaid left_to_right right_to_left require_parentheses : Associativity
 
 -- the operator/expression column: a form that the Reference names by words, or the operators of a row
 pub data Entry : Type 0 where
-  Paths Method-calls Field-expressions Function-calls-array-indexing Question-mark Unary Return-break-closures : Entry
+  Paths MethodCalls FieldExpressions FunctionCallsArrayIndexing QuestionMark Unary ReturnBreakClosures : Entry
   operators : List ℕ → Entry
 
 pub record Row : Type 0 where
@@ -24,41 +24,41 @@ table =
     -- Paths
     row Paths unsaid ∷
     -- Method calls
-    row Method-calls unsaid ∷
+    row MethodCalls unsaid ∷
     -- Field expressions: left to right
-    row Field-expressions leftToRight ∷
+    row FieldExpressions left_to_right ∷
     -- Function calls, array indexing
-    row Function-calls-array-indexing unsaid ∷
+    row FunctionCallsArrayIndexing unsaid ∷
     -- ?
-    row Question-mark unsaid ∷
+    row QuestionMark unsaid ∷
     -- Unary - ! * borrow
     row Unary unsaid ∷
     -- as: left to right
-    row (operators (AS_KW ∷ [])) leftToRight ∷
+    row (operators (AS_KW ∷ [])) left_to_right ∷
     -- * / %: left to right
-    row (operators (STAR ∷ SLASH ∷ PERCENT ∷ [])) leftToRight ∷
+    row (operators (STAR ∷ SLASH ∷ PERCENT ∷ [])) left_to_right ∷
     -- + -: left to right
-    row (operators (PLUS ∷ MINUS ∷ [])) leftToRight ∷
+    row (operators (PLUS ∷ MINUS ∷ [])) left_to_right ∷
     -- << >>: left to right
-    row (operators (SHL ∷ SHR ∷ [])) leftToRight ∷
+    row (operators (SHL ∷ SHR ∷ [])) left_to_right ∷
     -- &: left to right
-    row (operators (AMP ∷ [])) leftToRight ∷
+    row (operators (AMP ∷ [])) left_to_right ∷
     -- ^: left to right
-    row (operators (CARET ∷ [])) leftToRight ∷
+    row (operators (CARET ∷ [])) left_to_right ∷
     -- |: left to right
-    row (operators (PIPE ∷ [])) leftToRight ∷
+    row (operators (PIPE ∷ [])) left_to_right ∷
     -- == != < > <= >=: require parentheses
-    row (operators (EQ2 ∷ NEQ ∷ L_ANGLE ∷ R_ANGLE ∷ LTEQ ∷ GTEQ ∷ [])) requireParentheses ∷
+    row (operators (EQ2 ∷ NEQ ∷ L_ANGLE ∷ R_ANGLE ∷ LTEQ ∷ GTEQ ∷ [])) require_parentheses ∷
     -- &&: left to right
-    row (operators (AMP2 ∷ [])) leftToRight ∷
+    row (operators (AMP2 ∷ [])) left_to_right ∷
     -- ||: left to right
-    row (operators (PIPE2 ∷ [])) leftToRight ∷
+    row (operators (PIPE2 ∷ [])) left_to_right ∷
     -- .. ..=: require parentheses
-    row (operators (DOT2 ∷ DOT2EQ ∷ [])) requireParentheses ∷
+    row (operators (DOT2 ∷ DOT2EQ ∷ [])) require_parentheses ∷
     -- = += -= *= /= %= &= |= ^= <<= >>=: right to left
-    row (operators (EQ ∷ PLUSEQ ∷ MINUSEQ ∷ STAREQ ∷ SLASHEQ ∷ PERCENTEQ ∷ AMPEQ ∷ PIPEEQ ∷ CARETEQ ∷ SHLEQ ∷ SHREQ ∷ [])) rightToLeft ∷
+    row (operators (EQ ∷ PLUSEQ ∷ MINUSEQ ∷ STAREQ ∷ SLASHEQ ∷ PERCENTEQ ∷ AMPEQ ∷ PIPEEQ ∷ CARETEQ ∷ SHLEQ ∷ SHREQ ∷ [])) right_to_left ∷
     -- return break closures
-    row Return-break-closures unsaid ∷ []
+    row ReturnBreakClosures unsaid ∷ []
 
 unfoldable pub holds : ℕ → List ℕ → Bool
 holds k [] = false
@@ -67,12 +67,12 @@ holds k (x ∷ l) = whether (eqb k x) (λ _. true) (λ _. holds k l)
 unfoldable pub has_operator : ℕ → Entry → Bool
 has_operator k (operators l) = holds k l
 has_operator k Paths = false
-has_operator k Method-calls = false
-has_operator k Field-expressions = false
-has_operator k Function-calls-array-indexing = false
-has_operator k Question-mark = false
+has_operator k MethodCalls = false
+has_operator k FieldExpressions = false
+has_operator k FunctionCallsArrayIndexing = false
+has_operator k QuestionMark = false
 has_operator k Unary = false
-has_operator k Return-break-closures = false
+has_operator k ReturnBreakClosures = false
 
 -- the number of an operator's row, from 0, the strongest, on: the smaller the tighter; the number of rows for what is no operator of the table
 unfoldable pub place_in : ℕ → List Row → ℕ
@@ -115,10 +115,10 @@ entry_at n = (get_or table n (row Paths unsaid)).entry
 
 pub record Named : Type 0 where
   pub is_paths : entry_at paths ≡ Paths
-  pub is_method_calls : entry_at method_calls ≡ Method-calls
-  pub is_field_expressions : entry_at field_expressions ≡ Field-expressions
-  pub is_calls_and_indexing : entry_at calls_and_indexing ≡ Function-calls-array-indexing
-  pub is_question_mark : entry_at question_mark ≡ Question-mark
+  pub is_method_calls : entry_at method_calls ≡ MethodCalls
+  pub is_field_expressions : entry_at field_expressions ≡ FieldExpressions
+  pub is_calls_and_indexing : entry_at calls_and_indexing ≡ FunctionCallsArrayIndexing
+  pub is_question_mark : entry_at question_mark ≡ QuestionMark
   pub is_unary : entry_at unary ≡ Unary
 
 pub named : Named

@@ -13,7 +13,7 @@ mutual
     -- * t, ! t, - t
     prefix : ℕ → Tree → Tree
     -- & t, &mut t
-    borrowed borrowedMut : Tree → Tree
+    borrowed borrowed_mut : Tree → Tree
     -- l op r
     binary : ℕ → Tree → Tree → Tree
     -- l as path
@@ -67,7 +67,7 @@ unfoldable mutual
   leaves (paren t) = tok L_PAREN ∷ (leaves t ++ (tok R_PAREN ∷ []))
   leaves (prefix op t) = tok op ∷ leaves t
   leaves (borrowed t) = tok AMP ∷ leaves t
-  leaves (borrowedMut t) = tok AMP ∷ tok MUT_KW ∷ leaves t
+  leaves (borrowed_mut t) = tok AMP ∷ tok MUT_KW ∷ leaves t
   leaves (binary op l r) = leaves l ++ (tok op ∷ leaves r)
   leaves (cast l n) = leaves l ++ (tok AS_KW ∷ path n)
   leaves (bare op) = tok op ∷ []
@@ -142,7 +142,7 @@ unfoldable mutual
   flat (paren t) = node_over PAREN_EXPR (taken L_PAREN ∷ (flat t ++ (taken R_PAREN ∷ [])))
   flat (prefix op t) = node_over PREFIX_EXPR (taken op ∷ flat t)
   flat (borrowed t) = node_over REF_EXPR (taken AMP ∷ flat t)
-  flat (borrowedMut t) = node_over REF_EXPR (taken AMP ∷ taken MUT_KW ∷ flat t)
+  flat (borrowed_mut t) = node_over REF_EXPR (taken AMP ∷ taken MUT_KW ∷ flat t)
   flat (binary op l r) = node_over BIN_EXPR (flat l ++ (taken op ∷ flat r))
   flat (cast l n) = node_over CAST_EXPR (flat l ++ (taken AS_KW ∷ node_over PATH_TYPE (path_steps n)))
   flat (bare op) = node_over RANGE_EXPR (taken op ∷ [])
