@@ -25,9 +25,9 @@ unfoldable pub form_answer : List ℕ → Form → List ℕ → List ℕ → Ans
 form_answer bs f ev st =
     bound (kinds_of bs f) λ kinds.
     bound (joints_of bs f) λ joints.
-    bound (room_of (length kinds) (length ev)) λ eventRoom.
-    bound (room_of (length kinds) (length st)) λ stepRoom.
-    lent_first eventRoom stepRoom ev st (λ e s. parse_of (lent kinds joints) e s)
+    bound (room_of (length kinds) (length ev)) λ event_room.
+    bound (room_of (length kinds) (length st)) λ step_room.
+    lent_first event_room step_room ev st (λ e s. parse_of (lent kinds joints) e s)
 
 -- what follows each case of what bytes hold
 unfoldable pub on_limited : {A : Type 0} → Limited → (Form → A) → (Unit {0} → A) → (ℕ → A) → A

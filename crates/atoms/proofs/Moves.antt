@@ -18,7 +18,7 @@ use Rattle.parser.specs.declared.Taken.{Taken}
 use Rattle.parser.specs.declared.Taken.TheVariants as taken
 use Rattle.parser.specs.Calls.{start_of, precede_of, error_of, eat_of, bump_any_of}
 use Rattle.parser.specs.Prog.{Prog, refuse, start, precede, bump_any, then, Reply, fine, bad, Ran, run, on_taken}
-use Rattle.parser.proofs.Moves.{ReplyBy, Kept, Stays, Goes, opened_by, moved_by, taken_by, then_by, start_moves, precede_moves, error_moves, eat_moves, bump_moves, onward as never-falls}
+use Rattle.parser.proofs.Moves.{ReplyBy, Kept, Stays, Goes, opened_by, moved_by, taken_by, then_by, start_moves, precede_moves, error_moves, eat_moves, bump_moves, onward as never_falls}
 use Rattle.atoms.specs.declared.Turn.{Turn}
 use Rattle.atoms.specs.declared.Turn.TheVariants as turn
 use Rattle.atoms.specs.Views.{turn_reply}
@@ -38,7 +38,7 @@ module _ (ts : Tokens) (q : ℕ) where
 
   -- whatever goes on from beyond q
   pub beyond_on : {A : Type 0} (p : Prog A) (s : State) (ev : List ℕ) → Past ts q s → Beyond ts q (run ts p s ev)
-  beyond_on p s ev h = beyond_go (run ts p s ev).0 (run ts p s ev).1 h.1 (never-falls ts p (suc q) s ev (omega arith))
+  beyond_on p s ev h = beyond_go (run ts p s ev).0 (run ts p s ev).1 h.1 (never_falls ts p (suc q) s ev (omega arith))
 
   pub from_go : {A : Type 0} (x : Reply A) (e : List ℕ) → Kept (λ s1 _. q ≤ s1.pos.0) (x, e) → ReplyBy (λ s1 _ _. q ≤ s1.pos.0) (λ _ _. Unit {0}) (x, e)
   from_go (fine s a) e h = h
@@ -49,7 +49,7 @@ module _ (ts : Tokens) (q : ℕ) where
   then_beyond p k s ev h = then_by (Beyond ts q) (λ s1 _ _. Past ts q s1) (λ _ _. Unit {0}) ts p k s ev h (λ s1 a e g. beyond_on (k a) s1 e g) (λ _ _ _. tt)
 
   pub then_later : {A B : Type 0} (p : Prog A) (k : A → Prog B) (s : State) (ev : List ℕ) → q ≤ s.pos.0 → ((a : A) (s1 : State) (e : List ℕ) → q ≤ s1.pos.0 → Beyond ts q (run ts (k a) s1 e)) → Beyond ts q (run ts (then p k) s ev)
-  then_later p k s ev l h = then_by (Beyond ts q) (λ s1 _ _. q ≤ s1.pos.0) (λ _ _. Unit {0}) ts p k s ev (from_go (run ts p s ev).0 (run ts p s ev).1 (never-falls ts p q s ev l)) (λ s1 a e g. h a s1 e g) (λ _ _ _. tt)
+  then_later p k s ev l h = then_by (Beyond ts q) (λ s1 _ _. q ≤ s1.pos.0) (λ _ _. Unit {0}) ts p k s ev (from_go (run ts p s ev).0 (run ts p s ev).1 (never_falls ts p q s ev l)) (λ s1 a e g. h a s1 e g) (λ _ _ _. tt)
 
   module _ (s : State) (ev : List ℕ) (l : q ≤ s.pos.0) where
     pub start_beyond : {A : Type 0} (f : Marker → Prog A) → ((o : Marker) (s1 : State) (e : List ℕ) → q ≤ s1.pos.0 → Beyond ts q (run ts (f o) s1 e)) → Beyond ts q (run ts (start f) s ev)

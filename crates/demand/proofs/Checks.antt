@@ -14,7 +14,7 @@ use Rattle.input.specs.declared.Refusal.{Refusal}
 use Rattle.input.specs.declared.Checked.{Checked}
 use Rattle.input.specs.declared.Checked.TheVariants.{Fine, Refused}
 use Rattle.input.proofs.Laws.{not_both}
-use Rattle.demand.proofs.Tokens.{lengths_fine as few-tokens}
+use Rattle.demand.proofs.Tokens.{lengths_fine as few_tokens}
 
 pub no_both : {r : Refusal} → Fine ≡ Refused r → ⊥
 no_both q = let z : ◌≡◌ {A = ℕ} 0 1 = cc in omega arith
@@ -91,7 +91,7 @@ module _ (ts : Tokens) (fine : tokens_of ts ≡ Fine) where
       (good_stretch is_joint ts.joints at (ahead ts at) (λ i x y. stretch_good is_joint ts.joints 0 (length ts.kinds) b.1 i (omega arith) (omega arith)))
 
   pub tokens_few : length ts.kinds ≤ token_limit
-  tokens_few = few-tokens ts lengths_fine
+  tokens_few = few_tokens ts lengths_fine
 
 -- the numbers of the checks
 abbrev pub By1_3 : Checked → Type 0

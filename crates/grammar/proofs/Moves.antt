@@ -18,7 +18,7 @@ use Rattle.parser.specs.declared.Marker.{Marker}
 use Rattle.parser.specs.declared.CompletedMarker.{CompletedMarker}
 use Rattle.parser.specs.Calls.{start_of, split_of, abandon_of}
 use Rattle.parser.specs.Prog.{Prog, give, then, Reply, fine, bad, Ran, run, Perhaps, some, none}
-use Rattle.parser.proofs.Moves.{ReplyBy, Stays, Goes, opened_by, moved_by, parted_by, then_by, start_moves, abandon_moves, split_moves, onward as never-falls}
+use Rattle.parser.proofs.Moves.{ReplyBy, Stays, Goes, opened_by, moved_by, parted_by, then_by, start_moves, abandon_moves, split_moves, onward as never_falls}
 use Rattle.operators.specs.declared.Op.{Op}
 use Rattle.atoms.specs.declared.Turn.{Turn}
 use Rattle.atoms.specs.declared.Turn.TheVariants as turn
@@ -232,7 +232,7 @@ module _ (ts : Tokens) (s : State) where
   -- after a node the dot is still to be read
   onward_fewer : (p : Node) (s1 : State) (ev : List ℕ) → s.pos.0 ≤ s1.pos.0 → Fewers ts (left ts s true) (run ts (onward p) s1 ev)
   unfolding onward run
-  onward_fewer p s1 ev l = then_by (Fewers ts (left ts s true)) (λ s2 _ _. s.pos.0 ≤ s2.pos.0) (λ _ _. Unit {0}) ts p _ s1 ev (from_go ts s.pos.0 (run ts p s1 ev).0 (run ts p s1 ev).1 (never-falls ts p s.pos.0 s1 ev l)) (λ s2 a e h. omega arith) (λ _ _ _. tt)
+  onward_fewer p s1 ev l = then_by (Fewers ts (left ts s true)) (λ s2 _ _. s.pos.0 ≤ s2.pos.0) (λ _ _. Unit {0}) ts p _ s1 ev (from_go ts s.pos.0 (run ts p s1 ev).0 (run ts p s1 ev).1 (never_falls ts p s.pos.0 s1 ev l)) (λ s2 a e h. omega arith) (λ _ _ _. tt)
 
   float_beyond : (o : Marker) (s1 : State) (ev : List ℕ) → s.pos.0 ≤ s1.pos.0 → Beyond ts s.pos.0 (run ts (float_field ts o) s1 ev)
   unfolding float_field run
@@ -262,7 +262,7 @@ module _ (ts : Tokens) (s : State) where
 
     field_true : Less true (field_expr ts true m)
     unfolding field_expr
-    field_true = then_by (Fewers ts (left ts s true)) (λ s2 _ _. s.pos.0 ≤ s2.pos.0) (λ _ _. Unit {0}) ts (dotted true m) _ s ev (from_go ts s.pos.0 (run ts (dotted true m) s ev).0 (run ts (dotted true m) s ev).1 (never-falls ts (dotted true m) s.pos.0 s ev (le_refl _))) (λ s2 o e h. field_fewer o s2 e h) (λ _ _ _. tt)
+    field_true = then_by (Fewers ts (left ts s true)) (λ s2 _ _. s.pos.0 ≤ s2.pos.0) (λ _ _. Unit {0}) ts (dotted true m) _ s ev (from_go ts s.pos.0 (run ts (dotted true m) s ev).0 (run ts (dotted true m) s ev).1 (never_falls ts (dotted true m) s.pos.0 s ev (le_refl _))) (λ s2 o e h. field_fewer o s2 e h) (λ _ _ _. tt)
 
     field_false : Less false (field_expr ts false m)
     field_false = fewer (left ts s false) (omega arith) (field_expr ts false m) s ev (field_beyond ts s.pos.0 m s ev (le_refl _))

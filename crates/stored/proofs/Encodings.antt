@@ -98,8 +98,8 @@ formed_written {bs} {f} b h =
 pub formed_counted : {bs : List ℕ} {f : Form} → Bytes bs → Formed bs f → (length (kinds_of bs f) < length_values) × (length (joints_of bs f) < length_values)
 unfolding kinds_of joints_of
 formed_counted {bs} {f} b h =
-    let few-kinds : f.kinds.len < length_values = length_counted b h.kinds.head in
-    let few-joints : f.joints.len < length_values = length_counted b h.joints.head in
+    let few_kinds : f.kinds.len < length_values = length_counted b h.kinds.head in
+    let few_joints : f.joints.len < length_values = length_counted b h.joints.head in
     (omega (arith, part_length bs f.kinds h.kinds.fits), omega (arith, part_length bs f.joints h.joints.fits))
 
 formed_of_first : {bs : List ℕ} {f : Form} {x : Stored} → FirstSays bs x → x ≡ stored.Whole f → Formed bs f

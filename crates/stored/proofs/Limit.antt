@@ -135,9 +135,9 @@ lengths_within_of {bs} {limit} f (says_whole {f = g} none e) q =
     let same : g ≡ f = cc in
     let h : Formed bs f = (stored_formed bs (e ∙ ap stored.Whole same)).formed in
     let start : end_of f.kinds ≡ head_length + f.kinds.len = omega (arith, h.kinds.start) in
-    let few-kinds : f.kinds.len ≤ limit = within limit f.kinds.len (λ l. none (kinds_long h.kinds.head l)) in
+    let few_kinds : f.kinds.len ≤ limit = within limit f.kinds.len (λ l. none (kinds_long h.kinds.head l)) in
     let joints : Headed bs (head_length + f.kinds.len) joints_tag f.joints.len = subst (λ (a : ℕ). Headed bs a joints_tag f.joints.len) start h.joints.head in
-    (few-kinds, within limit f.joints.len (λ l. none (joints_long h.kinds.head few-kinds joints l)))
+    (few_kinds, within limit f.joints.len (λ l. none (joints_long h.kinds.head few_kinds joints l)))
 
 pub lengths_within : (bs : List ℕ) (limit : ℕ) (f : Form) → limited_of bs limit ≡ limited.Whole f → (f.kinds.len ≤ limit) × (f.joints.len ≤ limit)
 lengths_within bs limit f q = lengths_within_of f (limited_says bs limit) q

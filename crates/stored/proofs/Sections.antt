@@ -202,15 +202,15 @@ pub record Completes (bs : List ℕ) (at tag p : ℕ) : Type 0 where
 completes_here : (bs : List ℕ) (at tag p : ℕ) → tag < byte_values → at ≤ length bs → at ≡ p → Completes bs at tag p
 completes_here bs at tag p t h e =
     let none : length {A = ℕ} [] ≡ length_of 0 0 = refl in
-    let zero-byte : 0 < byte_values = omega arith in
+    let zero_byte : 0 < byte_values = omega arith in
     record {
       from = omega arith;
       within = omega arith;
       rest = tag ∷ 0 ∷ 0 ∷ [];
-      rest_bytes = bytes_cons t (bytes_cons zero-byte (bytes_cons zero-byte bytes_nil));
+      rest_bytes = bytes_cons t (bytes_cons zero_byte (bytes_cons zero_byte bytes_nil));
       payload = [];
       counted = omega arith;
-      written = ap (λ (z : ℕ). take z bs ++ tag ∷ 0 ∷ 0 ∷ []) (sym e) ∙ ap (λ (z : List ℕ). take at bs ++ z) (section_written tag 0 0 [] zero-byte none);
+      written = ap (λ (z : ℕ). take z bs ++ tag ∷ 0 ∷ 0 ∷ []) (sym e) ∙ ap (λ (z : List ℕ). take at bs ++ z) (section_written tag 0 0 [] zero_byte none);
     }
 
 -- the bytes end within a section of which something was there
@@ -249,8 +249,8 @@ completes_short bs at tag p b t l e k q = go (ltb (at + 1) (length bs)) refl
         let only : length bs ≤ at + 1 = ltb-false (at + 1) (length bs) r in
         let done : drop (at + 1) bs ≡ [] = drop_of_length-le bs only in
         let stands : drop at bs ≡ tag ∷ [] = drop_one bs at l ∙ cc (e, done) in
-        let zero-byte : 0 < byte_values = omega arith in
-        completes_more bs at tag 0 0 p (0 ∷ 0 ∷ []) [] (omega arith) q zero-byte zero-byte (bytes_cons zero-byte (bytes_cons zero-byte bytes_nil)) refl
+        let zero_byte : 0 < byte_values = omega arith in
+        completes_more bs at tag 0 0 p (0 ∷ 0 ∷ []) [] (omega arith) q zero_byte zero_byte (bytes_cons zero_byte (bytes_cons zero_byte bytes_nil)) refl
         (ap (λ (z : List ℕ). z ++ 0 ∷ 0 ∷ []) stands)
 
 -- the bytes end within a section's payload

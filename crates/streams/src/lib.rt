@@ -1,15 +1,16 @@
 // Reading until a buffer is full or the input ends.
 #![tactic(auto)]
 
-ghost use Rattle.std.specs.Prelude.{◌≡◌, ◌<◌, ℕ, length, take, IfOk, OnErr};
+ghost use Rattle.std.specs.Prelude.{◌≡◌, ◌<◌, ℕ, length, take, All, IfOk, OnErr};
 ghost use Rattle.std.specs.Io.{ReadsAtMost};
 ghost use Rattle.std.specs.Io.KnownBytes.{Consumes, IsAtEnd};
 
 use std::io::{self, Read};
 
-// 65,536 zeros, for a program that reads or prints much. Only the length is known where it is lent.
+// 65,536 zeros, for a program that reads or prints much.
 pub fn large_buffer() -> [u8; 65536]
-    ensures { 65536 ≡ length result }
+    ensures size { 65536 ≡ length result }
+    ensures zeros { All (λ b. b ≡ 0) result }
 {
     [0; 65536]
 }

@@ -21,48 +21,37 @@ invariant-loop-s1 kinds joints events₀ s₀ m₀ events s m =
 abbrev decreases-loop-s1 : tie.decreases-loop-s1
 decreases-loop-s1 kinds joints events₀ s₀ m₀ events s m = length kinds.now - s.pos.0
 
--- src/paths.rt:80:5
 loop-holds : tie.Need-loop-s1-init invariant-loop-s1 decreases-loop-s1
 unfolding path_rest
 loop-holds c = (refl, rest_start _ _ _ _ _ (omega arith))
 
--- src/paths.rt:81:15
 path-turn-requires : tie.Need-path_turn-requires invariant-loop-s1 decreases-loop-s1
 path-turn-requires c κs = search rules
 
--- src/paths.rt:82:25
 enum-known-s1 : tie.Need-enum_known-s1 invariant-loop-s1 decreases-loop-s1
 enum-known-s1 c = search rules
 
--- src/paths.rt:80:5
 loop-less : tie.Need-loop-s1-smaller invariant-loop-s1 decreases-loop-s1
 loop-less c = search path_less depth 6
 
--- src/paths.rt:80:5
 loop-again : tie.Need-loop-s1-preserved invariant-loop-s1 decreases-loop-s1
 loop-again c = (search rules, rest_again _ _ _ _ _ c.before.before.before.before.before.before.before.loop-s1.invariant.1 (search turnings depth 10) (search path_less depth 6))
 
--- src/paths.rt:86:24
 enum-known-s1-2 : tie.Need-enum_known-s1-in-Done-1 invariant-loop-s1 decreases-loop-s1
 enum-known-s1-2 c = search rules
 
--- src/paths.rt:86:35
 same_length : tie.Need-shape_of-events-in-Done invariant-loop-s1 decreases-loop-s1
 same_length c = search rules
 
--- src/paths.rt:86:35
 returns : tie.Need-returns-in-Done invariant-loop-s1 decreases-loop-s1
 returns c = search (turnings, rest_done) depth 10
 
--- src/paths.rt:87:27
 enum-known-r : tie.Need-enum_known-r invariant-loop-s1 decreases-loop-s1
 enum-known-r c = search rules
 
--- src/paths.rt:87:33
 same-length-2 : tie.Need-shape_of-events-in-Refused invariant-loop-s1 decreases-loop-s1
 same-length-2 c = search rules
 
--- src/paths.rt:87:33
 returns-2 : tie.Need-returns-in-Refused invariant-loop-s1 decreases-loop-s1
 returns-2 c = search (turnings, rest_done) depth 10
 

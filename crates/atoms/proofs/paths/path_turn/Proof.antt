@@ -8,7 +8,6 @@ use borrow.Author.Rules.{rules}
 use Rattle.atoms.proofs.paths.path_turn.Statement.{statement}
 use Rattle.atoms.proofs.paths.path_turn.Tie as tie
 
--- src/paths.rt:102:31
 add-kind-at : tie.Need-overflow_add-at
 add-kind-at c =
     let h : c.before.before.before.before.before.args.state.pos.0 + 2 ≤ length c.before.before.before.before.before.args.kinds.now = colon_inside c.before.before.before.before.before.args.kinds.now c.before.before.before.before.before.args.joints.now c.before.before.before.before.before.args.state.pos.0 c.before.nth_at.ensures c.if-not-nth_at.false-raw in

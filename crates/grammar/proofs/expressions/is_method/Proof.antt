@@ -10,14 +10,12 @@ use borrow.Author.Rules.{rules}
 use Rattle.grammar.proofs.expressions.is_method.Statement.{statement}
 use Rattle.grammar.proofs.expressions.is_method.Tie as tie
 
--- src/expressions.rt:400:31
 add-kind-at : tie.Need-overflow_add-at
 add-kind-at c =
     let h : c.before.before.before.before.before.args.at < length c.before.before.before.before.before.args.kinds.now =
     kind_inside (lent c.before.before.before.before.before.args.kinds.now c.before.before.before.before.before.args.joints.now) _ (λ q. omega (arith, c.before.before.kind_at-kind.ensures)) in
     search rules
 
--- src/expressions.rt:404:27
 add-nth-at : tie.Need-overflow_add-at-2
 add-nth-at c =
     let h : c.before.before.before.before.before.before.before.args.at < length c.before.before.before.before.before.before.before.args.kinds.now =

@@ -10,7 +10,6 @@ use borrow.Author.Rules.{rules}
 use Rattle.operators.proofs.operator.operand_follows.Statement.{statement}
 use Rattle.operators.proofs.operator.operand_follows.Tie as tie
 
--- src/operator.rt:196:39
 add-kind-at : tie.Need-overflow_add-at
 add-kind-at c =
     let h : c.before.before.before.before.before.before.args.at < length c.before.before.before.before.before.before.args.kinds.now =
