@@ -4,11 +4,10 @@ use Rattle.process.proofs.Laws.{unsound, too_many, passed}
 use Rattle.process.proofs.process.Goals as goal
 
 pub returns-then-not-sound : goal.returns-then-not-sound
-returns-then-not-sound c = unsound _ _ _ c.sound.ensures.value c.if-not-sound.true
+returns-then-not-sound c = search (unsound, rules)
 
 pub returns-then-steps-count_steps : goal.returns-then-steps-count_steps
-returns-then-steps-count_steps c =
-    too_many _ _ _ c.sound.ensures.value c.if-not-sound.false c.count_steps.ensures c.if-steps-count_steps.true
+returns-then-steps-count_steps c = search (too_many, rules)
 
 pub returns : goal.returns
 returns c =
