@@ -1,5 +1,6 @@
 -- How long the text of an answer is at most, so that it stands whole where a program has that much room: by the places of a number, then
 -- line by line. Assumes nothing.
+use Rattle.std.proofs.Common.{Result, Ok, Err}
 use Prim.Native.Nat.{ℕ, zero, suc, ◌+◌, ◌*◌, ◌/◌, ◌≤◌}
 use mathlib.Core.Path.{◌≡◌}
 use mathlib.Core.Bool.{Bool, true, false}
@@ -8,8 +9,8 @@ use native.Mathlib.Omega.{arith}
 use lib.Dec.{ltb}
 use lib.ListN.{length, take, length-append, length-take}
 use Rattle.base.specs.Base.{whether}
+use Rattle.input.specs.declared.Refusal.{Refusal}
 use Rattle.reader.specs.declared.Parsed.{Parsed}
-use Rattle.reader.specs.declared.Parsed.TheVariants as parsed
 use Rattle.answers.specs.Text.{Put, base, places_limit, line_limit, head_limit, digit_of, digits_of, decimal_of, line_of, lines_of, head_text, steps_text, refusal_text, text_of}
 use Rattle.answers.proofs.Putting.{put_whole}
 
@@ -41,14 +42,14 @@ head_fits : (consumed count : ℕ) → length (head_text consumed count) ≤ hea
 unfolding head_text
 head_fits consumed count = simp length-append (omega (arith, decimal_fits consumed, line_fits count))
 
-pub text_fits : (answer : Parsed) (st : List ℕ) → length (text_of answer st) ≤ head_limit + line_limit * length st
+pub text_fits : (answer : Result Parsed Refusal) (st : List ℕ) → length (text_of answer st) ≤ head_limit + line_limit * length st
 unfolding text_of steps_text refusal_text
-text_fits (parsed.Steps consumed n) st =
-    let some : length (take n st) ≤ length st = rw length-take (omega arith) in
-    simp length-append (omega (arith, head_fits consumed (length (take n st)), lines_fit (take n st)))
-text_fits (parsed.Refused r) st = simp length-append (omega (arith, decimal_fits r.number, line_fits r.place))
+text_fits (Ok got) st =
+    let some : length (take got.steps st) ≤ length st = rw length-take (omega arith) in
+    simp length-append (omega (arith, head_fits got.consumed (length (take got.steps st)), lines_fit (take got.steps st)))
+text_fits (Err r) st = simp length-append (omega (arith, decimal_fits r.number, line_fits r.place))
 
 -- with that much room behind it, the text of an answer is printed whole
-pub printed_whole : {out after : List ℕ} {at r : ℕ} (answer : Parsed) (st : List ℕ) → at + (head_limit + line_limit * length st) ≤ length out → Put out at (text_of answer st) r after
+pub printed_whole : {out after : List ℕ} {at r : ℕ} (answer : Result Parsed Refusal) (st : List ℕ) → at + (head_limit + line_limit * length st) ≤ length out → Put out at (text_of answer st) r after
     → take r after ≡ take at out ++ text_of answer st
 printed_whole answer st h p = (put_whole (omega (arith, text_fits answer st)) p).1

@@ -1,4 +1,4 @@
--- Laws of `Put`: nothing put, a byte put, and one text after another; a text for which there is room stands whole; any two that are put agree.
+-- Laws of `Put`: nothing put, and one text after another; a text for which there is room stands whole; any two that are put agree.
 -- By the lengths of what stands there already. Assumes nothing.
 use Prim.Native.Nat.{ℕ, zero, suc, ◌+◌, ◌-◌, ◌/◌, ◌≤◌, ◌<◌, min}
 use mathlib.Core.Path.{◌≡◌, refl, sym, ◌∙◌, ap}
@@ -8,8 +8,8 @@ use native.Mathlib.Numerals.{add-one, unary_clauses}
 use native.Mathlib.Omega.{arith}
 use borrow.Author.Tests.{leb-true, leb-false, lt-ltb, le-ltb}
 use lib.Dec.{leb}
-use lib.ListN.{length, take, drop, get_or, set, length-take, length-append, length-set, take-append-drop}
-use lib.Seq.{take_all, take-append-le, take-take, take-suc, take-suc-set, drop-set-lt, drop-drop}
+use lib.ListN.{length, take, drop, get_or, length-take, length-append, take-append-drop}
+use lib.Seq.{take_all, take-append-le, take-take, take-suc, drop-drop}
 use Rattle.base.specs.Base.{whether}
 use Rattle.answers.specs.Text.{Put, base, digit_of, digits_of, lines_of, line_of}
 
@@ -34,32 +34,6 @@ before out at = take_all (length out) (take at out) (rw length-take (omega arith
 pub put_nothing : (out : List ℕ) (at : ℕ) → Put out at [] at out
 put_nothing out at =
     record { same_length = refl; onward = omega arith; within = λ h. h; beyond = λ _. refl; stands = rw (append-nil, before); rest = refl }
-
-pub put_byte : (out : List ℕ) (at b : ℕ) → at < length out → Put out at (b ∷ []) (at + 1) (set out at b)
-put_byte out at b h =
-    let fits : length (take at out ++ (b ∷ [])) ≤ length out = simp (length-append, length-take) (omega arith) in
-    let all : take (length out) (take at out ++ (b ∷ [])) ≡ take at out ++ (b ∷ []) = take_all _ _ fits in
-    record {
-      same_length = length-set out at b;
-      onward = omega arith;
-      within = λ _. omega arith;
-      beyond = λ q. absurd (omega arith);
-      stands = rw (add-one, take-suc-set out at b h, all);
-      rest = drop-set-lt (at + 1) out at b (omega arith);
-    }
-
-pub put_full : (out : List ℕ) (at b : ℕ) → length out ≤ at → Put out at (b ∷ []) at out
-put_full out at b h =
-    let all : take at out ≡ out = take_all at out h in
-    let m : length out ≤ length out = omega arith in
-    record {
-      same_length = refl;
-      onward = omega arith;
-      within = λ q. q;
-      beyond = λ _. refl;
-      stands = rw (all, take-append-le (length out) out (b ∷ []) m, take_all (length out) out m);
-      rest = refl;
-    }
 
 -- what is the same from a place on is the same from a later place on
 later : (a b : List ℕ) (m r : ℕ) → m ≤ r → drop m a ≡ drop m b → drop r a ≡ drop r b
@@ -128,21 +102,10 @@ lines_more xs i h = rw (add-one, take-suc xs i 0 h) (lines_last (take i xs) (get
     lines_last [] x = append-nil (line_of x)
     lines_last (y ∷ ys) x = rw (lines_last ys x) (sym (append_assoc (line_of y) (lines_of ys) (line_of x)))
 
--- a text that is put byte by byte
-pub word_more : {out mid after : List ℕ} {at m r : ℕ} (text : List ℕ) (i : ℕ) → i < length text → Put out at (take i text) m mid → Put mid m (get_or text i 0 ∷ []) r after
-    → Put out at (take (i + 1) text) r after
-word_more text i h p q = rw (add-one, take-suc text i 0 h) (put_then p q)
-
-pub word_all : {out after : List ℕ} {at r : ℕ} (text : List ℕ) (i : ℕ) → length text ≤ i → Put out at (take i text) r after → Put out at text r after
-word_all text i h p = rw (take_all i text h) at p
-
 -- steps that are put line by line
 pub line_more : {out mid after : List ℕ} {at m r x : ℕ} (xs : List ℕ) (i : ℕ) → i < length xs → x ≡ get_or xs i 0 → Put out at (lines_of (take i xs)) m mid → Put mid m (line_of x) r after
     → Put out at (lines_of (take (i + 1) xs)) r after
 line_more xs i h e p q = rw (lines_more xs i h, ← e) (put_then p q)
-
-pub line_all : {out after : List ℕ} {at r : ℕ} (xs : List ℕ) (i : ℕ) → length xs ≤ i → Put out at (lines_of (take i xs)) r after → Put out at (lines_of xs) r after
-line_all xs i h p = rw (take_all i xs h) at p
 
 -- the digits of a number, the last one put last
 pub no_place : {out : List ℕ} {at : ℕ} (n most : ℕ) → most ≡ 0 → Put out at (digits_of most n) at out

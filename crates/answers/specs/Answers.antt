@@ -1,14 +1,13 @@
 -- What the programs answer for bytes: the refusals of the stored form, and the reader's answer with room of 16n + 16.
-use Rattle.std.specs.Prelude.{ℕ, ◌+◌, ◌*◌, ◌/◌, List, ◌++◌, length, take, drop, ltb}
+use Rattle.std.specs.Prelude.{Result, Ok, Err, ℕ, ◌+◌, ◌*◌, ◌/◌, List, ◌++◌, length, take, drop, ltb}
 use Rattle.base.specs.Base.{pick, whether, bound}
 use Rattle.input.specs.Input.{lent}
 use Rattle.input.specs.SyntaxKind.{BAD_LENGTH, BROKEN_FORM}
 use Rattle.reader.specs.Reader.{Answer, parse_of}
-use Rattle.reader.specs.declared.Parsed.TheVariants as parsed
 use Rattle.stored.specs.Stored.{kinds_of, joints_of, long_of, first_of, on_stored}
 use Rattle.stored.specs.declared.Form.{Form}
-use Rattle.stored.specs.declared.Limited.{Limited}
-use Rattle.stored.specs.declared.Limited.TheVariants as limited
+use Rattle.stored.specs.declared.Unread.{Unread}
+use Rattle.stored.specs.declared.Unread.TheVariants as unread
 
 abbrev pub room_each : ℕ
 room_each = 16
@@ -30,20 +29,20 @@ form_answer bs f ev st =
     lent_first event_room step_room ev st (λ e s. parse_of (lent kinds joints) e s)
 
 -- what follows each case of what bytes hold
-unfoldable pub on_limited : {A : Type 0} → Limited → (Form → A) → (Unit {0} → A) → (ℕ → A) → A
-on_limited (limited.Whole f) k l b = k f
-on_limited limited.Long k l b = l tt
-on_limited (limited.Broken p) k l b = b p
+unfoldable pub on_limited : {A : Type 0} → Result Form Unread → (Form → A) → (Unit {0} → A) → (ℕ → A) → A
+on_limited (Ok f) k l b = k f
+on_limited (Err unread.Long) k l b = l tt
+on_limited (Err (unread.Broken p)) k l b = b p
 
 -- "refuses 3 at 0 at the first length above" the limit; 10 at its place
-unfoldable pub held_answer : List ℕ → Limited → List ℕ → List ℕ → Answer
+unfoldable pub held_answer : List ℕ → Result Form Unread → List ℕ → List ℕ → Answer
 held_answer bs held ev st =
     on_limited held (λ f. form_answer bs f ev st)
-    (λ _. (parsed.Refused (record { number = BAD_LENGTH; place = 0 }), ev, st))
-    (λ p. (parsed.Refused (record { number = BROKEN_FORM; place = p }), ev, st))
+    (λ _. (Err (record { number = BAD_LENGTH; place = 0 }), ev, st))
+    (λ p. (Err (record { number = BROKEN_FORM; place = p }), ev, st))
 
 -- the form that stands first, or a length above the limit
-unfoldable pub first_limited : List ℕ → ℕ → Limited
+unfoldable pub first_limited : List ℕ → ℕ → Result Form Unread
 first_limited bs limit =
-    whether (long_of bs limit) (λ _. limited.Long) λ _.
-    on_stored (first_of bs) (λ f. limited.Whole f) (λ p. limited.Broken p)
+    whether (long_of bs limit) (λ _. Err unread.Long) λ _.
+    on_stored (first_of bs) (λ f. Ok f) (λ p. Err (unread.Broken p))

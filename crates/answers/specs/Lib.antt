@@ -1,3 +1,4 @@
 pub mod Text
+pub mod Writer
 pub mod Answers
 pub mod Worked

@@ -1,9 +1,8 @@
 -- The text of an answer: "prints in decimal".
-use Rattle.std.specs.Prelude.{ℕ, zero, suc, ◌+◌, ◌/◌, ◌%◌, ◌≤◌, ◌≡◌, List, [], ◌∷◌, ◌++◌, length, take, drop, ltb}
+use Rattle.std.specs.Prelude.{Result, Ok, Err, ℕ, zero, suc, ◌+◌, ◌/◌, ◌%◌, ◌≤◌, ◌≡◌, List, [], ◌∷◌, ◌++◌, length, take, drop, ltb}
 use Rattle.base.specs.Base.{whether}
 use Rattle.input.specs.declared.Refusal.{Refusal}
 use Rattle.reader.specs.declared.Parsed.{Parsed}
-use Rattle.reader.specs.declared.Parsed.TheVariants as parsed
 
 abbrev pub base : ℕ
 base = 10
@@ -61,9 +60,9 @@ unfoldable pub refusal_text : Refusal → List ℕ
 refusal_text r = refused_word ++ (decimal_of r.number ++ (at_word ++ line_of r.place))
 
 -- the text of an answer, the steps standing first in their list
-unfoldable pub text_of : Parsed → List ℕ → List ℕ
-text_of (parsed.Steps consumed n) st = steps_text consumed (take n st)
-text_of (parsed.Refused r) st = refusal_text r
+unfoldable pub text_of : Result Parsed Refusal → List ℕ → List ℕ
+text_of (Ok got) st = steps_text got.consumed (take got.steps st)
+text_of (Err r) st = refusal_text r
 
 -- at most so many bytes a line of a number has, and the first line of an answer
 abbrev pub line_limit : ℕ

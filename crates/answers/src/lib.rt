@@ -2,13 +2,14 @@
 #![tactic(auto)]
 
 ghost use Rattle.std.specs.Prelude.{◌≡◌, [], ◌∷◌, ◌≤◌, length, take};
-ghost use Rattle.answers.specs.Text.{Put, digit_of, digits_of, decimal_of, line_of, lines_of, newline, head_text, steps_text, refusal_text, text_of};
+ghost use Rattle.answers.specs.Text.{Put, digit_of, digits_of, decimal_of, line_of, lines_of, head_text, steps_text, refusal_text, text_of};
+ghost use Rattle.answers.specs.Writer.{Wrote};
 ghost use Rattle.answers.specs.Answers.{room_of, form_answer, held_answer, first_limited};
 
 use input::Refusal;
 use input::syntax_kind::{BAD_LENGTH, BROKEN_FORM};
 use reader::Parsed;
-use stored::{Form, Limited, Stored};
+use stored::{Form, Unread};
 
 // How many tokens a list has that the program `read` reads: "refuses 3 at 0 at the first length above 256".
 #[derive(Clone, Copy)]
@@ -46,140 +47,194 @@ impl Room {
     pub const EACH: usize = 16;
 }
 
-// Writes a byte at `at` where there is room, and answers where the next one goes.
-fn byte(out: &mut [u8], at: usize, b: u8) -> usize
-    ensures { Put out.old at (b ∷ []) result out.new }
-{
-    if at < out.len() {
-        out[at] = b;
-        return at + 1;
-    }
-    at
-}
-
-pub fn word(out: &mut [u8], at: usize, text: &[u8]) -> usize
-    ensures { Put out.old at text.now result out.new }
-{
-    let mut end = at;
-    let mut i = 0;
-    while i < text.len() {
-        end = byte(out, end, text[i]);
-        i += 1;
-    }
-    end
-}
-
 fn digit(n: u64) -> u8
     ensures { result ≡ digit_of n }
 {
     b'0' + (n % Places::BASE) as u8
 }
 
-// "prints in decimal": n, of at most `most` digits.
-fn digits(out: &mut [u8], at: usize, n: u64, most: usize) -> usize
-    ensures { Put out.old at (digits_of most n) result out.new }
+// A lent list of bytes, and where in it the next one goes. What doesn't fit is left out.
+// Numbers are written by hand: `write!` promises its bytes only where it answers Ok, and never that it does so, while a writer here can't fail.
+#[derive(Drop)]
+pub struct Writer<'a> {
+    pub out: &'a mut [u8],
+    pub end: usize,
+}
+
+impl<'a> Writer<'a> {
+    pub fn new(out: &'a mut [u8], at: usize) -> Writer<'a>
+        ensures same_list { result.out.ghost_name ≡ out.entry.ghost_name }
+        ensures list { result.out.now ≡ out.old }
+        ensures end { result.end ≡ at }
+    {
+        Writer { out, end: at }
+    }
+
+    fn byte(&mut self, b: u8)
+        ensures { Wrote self.old (b ∷ []) self.new }
+    {
+        if self.end < self.out.len() {
+            self.out[self.end] = b;
+            self.end += 1;
+        }
+    }
+
+    pub fn word(&mut self, text: &[u8])
+        ensures { Wrote self.old text.now self.new }
+    {
+        for &b in text {
+            self.byte(b);
+        }
+    }
+
+    // "prints in decimal": n, of at most `most` digits.
+    fn digits(&mut self, n: u64, most: usize)
+        ensures { Wrote self.old (digits_of most n) self.new }
+    {
+        if most == 0 {
+            return;
+        }
+        if Places::BASE <= n {
+            self.digits(n / Places::BASE, most - 1);
+        }
+        self.byte(digit(n));
+    }
+
+    #[tactic(auto, unfolding(crate::specs::Text::decimal_of))]
+    pub fn decimal(&mut self, n: u64)
+        ensures { Wrote self.old (decimal_of n) self.new }
+    {
+        self.digits(n, Places::LIMIT);
+    }
+
+    #[tactic(auto, using(crate::proofs::Writing::wrote_then), unfolding(crate::specs::Text::line_of))]
+    pub fn line(&mut self, n: u64)
+        ensures { Wrote self.old (line_of n) self.new }
+    {
+        self.decimal(n);
+        self.byte(b'\n');
+    }
+
+    // A line for each step.
+    fn lines(&mut self, steps: &[u32])
+        ensures { Wrote self.old (lines_of steps.now) self.new }
+    {
+        for &step in steps {
+            self.line(u64::from(step));
+        }
+    }
+
+    // `consumed C steps N`
+    fn head(&mut self, consumed: usize, count: usize)
+        ensures { Wrote self.old (head_text consumed count) self.new }
+    {
+        self.word(b"consumed ");
+        self.decimal(consumed as u64);
+        self.word(b" steps ");
+        self.line(count as u64);
+    }
+
+    fn steps(&mut self, consumed: usize, steps: &[u32])
+        ensures { Wrote self.old (steps_text consumed steps.now) self.new }
+    {
+        self.head(consumed, steps.len());
+        self.lines(steps);
+    }
+
+    pub fn refusal(&mut self, refusal: Refusal)
+        ensures { Wrote self.old (refusal_text refusal) self.new }
+    {
+        self.word(b"refused ");
+        self.decimal(u64::from(refusal.number));
+        self.word(b" at ");
+        self.line(refusal.place as u64);
+    }
+
+    #[tactic(auto, using(crate::proofs::Writing::wrote_steps, crate::proofs::Writing::wrote_refusal))]
+    fn answer(&mut self, answer: Result<Parsed, Refusal>, steps: &[u32])
+        ensures { Wrote self.old (text_of answer steps.now) self.new }
+    {
+        match answer {
+            Ok(parsed) => self.steps(parsed.consumed, given(steps, parsed.steps)),
+            Err(refusal) => self.refusal(refusal),
+        }
+    }
+}
+
+// This function and the next four write over a list and a place what the writer's methods do, and answer where the text ends.
+pub fn word(out: &mut [u8], at: usize, text: &[u8]) -> usize
+    ensures { Put out.old at text.now result out.new }
 {
-    if most == 0 {
-        return at;
-    }
-    if n < Places::BASE {
-        return byte(out, at, digit(n));
-    }
-    let next = digits(out, at, n / Places::BASE, most - 1);
-    byte(out, next, digit(n))
+    let mut writer = Writer::new(out, at);
+    writer.word(text);
+    writer.end
 }
 
 pub fn decimal(out: &mut [u8], at: usize, n: u64) -> usize
     ensures { Put out.old at (decimal_of n) result out.new }
 {
-    digits(out, at, n, Places::LIMIT)
+    let mut writer = Writer::new(out, at);
+    writer.decimal(n);
+    writer.end
 }
 
 pub fn line(out: &mut [u8], at: usize, n: u64) -> usize
     ensures { Put out.old at (line_of n) result out.new }
 {
-    let next = decimal(out, at, n);
-    byte(out, next, b'\n')
-}
-
-fn wide(x: u32) -> u64
-    ensures { result ≡ x }
-{
-    x as u64
-}
-
-// A line for each step.
-fn lines(out: &mut [u8], at: usize, steps: &[u32]) -> usize
-    ensures { Put out.old at (lines_of steps.now) result out.new }
-{
-    let mut end = at;
-    let mut i = 0;
-    while i < steps.len() {
-        end = line(out, end, wide(steps[i]));
-        i += 1;
-    }
-    end
-}
-
-// The first `count` steps.
-pub fn given(steps: &[u32], count: usize) -> &[u32]
-    ensures { result.now ≡ take count steps.now }
-{
-    if count <= steps.len() {
-        return &steps[..count];
-    }
-    steps
-}
-
-// `consumed C steps N`
-fn put_head(out: &mut [u8], at: usize, consumed: usize, count: usize) -> usize
-    ensures { Put out.old at (head_text consumed count) result out.new }
-{
-    let next = word(out, at, b"consumed ");
-    let next = decimal(out, next, consumed as u64);
-    let next = word(out, next, b" steps ");
-    line(out, next, count as u64)
-}
-
-fn put_steps(out: &mut [u8], at: usize, consumed: usize, steps: &[u32]) -> usize
-    ensures { Put out.old at (steps_text consumed steps.now) result out.new }
-{
-    let next = put_head(out, at, consumed, steps.len());
-    lines(out, next, steps)
+    let mut writer = Writer::new(out, at);
+    writer.line(n);
+    writer.end
 }
 
 pub fn put_refusal(out: &mut [u8], at: usize, refusal: Refusal) -> usize
     ensures { Put out.old at (refusal_text refusal) result out.new }
 {
-    let next = word(out, at, b"refused ");
-    let next = decimal(out, next, refusal.number as u64);
-    let next = word(out, next, b" at ");
-    line(out, next, refusal.place as u64)
+    let mut writer = Writer::new(out, at);
+    writer.refusal(refusal);
+    writer.end
 }
 
 // The text of a reader's answer, as far as it fits from `at` on; answers where it ends.
-pub fn put_answer(out: &mut [u8], at: usize, answer: Parsed, steps: &[u32]) -> usize
+pub fn put_answer(
+    out: &mut [u8],
+    at: usize,
+    answer: Result<Parsed, Refusal>,
+    steps: &[u32],
+) -> usize
     ensures { Put out.old at (text_of answer steps.now) result out.new }
 {
-    match answer {
-        Parsed::Steps(consumed, count) => put_steps(out, at, consumed, given(steps, count)),
-        Parsed::Refused(refusal) => put_refusal(out, at, refusal),
-    }
+    let mut writer = Writer::new(out, at);
+    writer.answer(answer, steps);
+    writer.end
+}
+
+// The first `count` of a list, or all of it.
+pub fn given<T>(list: &[T], count: usize) -> &[T]
+    ensures { result.now ≡ take count list.now }
+{
+    list.get(..count).unwrap_or(list)
 }
 
 // "Room of 16n + 16 events and as many steps", or all there is.
+#[tactic(auto, unfolding(crate::specs::Answers::room_of, base::specs::Base::pick))]
 fn room_of(n: usize, most: usize) -> usize
     ensures value { result ≡ room_of n most }
     ensures upper_bound { result ≤ most }
 {
     if n < most / Room::EACH {
-        return Room::EACH * n + Room::EACH;
+        Room::EACH * n + Room::EACH
+    } else {
+        most
     }
-    most
 }
 
 // Reads a form that stands in `bytes`.
-pub fn parse_form(bytes: &[u8], form: Form, events: &mut [u64], steps: &mut [u32]) -> Parsed
+pub fn parse_form(
+    bytes: &[u8],
+    form: Form,
+    events: &mut [u64],
+    steps: &mut [u32],
+) -> Result<Parsed, Refusal>
     ensures { (result, events.new, steps.new) ≡ form_answer bytes.now form events.old steps.old }
 {
     let kinds = stored::kinds(bytes, form);
@@ -187,47 +242,44 @@ pub fn parse_form(bytes: &[u8], form: Form, events: &mut [u64], steps: &mut [u32
     let event_room = room_of(kinds.len(), events.len());
     let step_room = room_of(kinds.len(), steps.len());
     reader::parse(
-        kinds,
-        joints,
+        &input::Tokens::new(kinds, joints),
         &mut events[..event_room],
         &mut steps[..step_room],
     )
 }
 
 // The form that stands first in `bytes`, or a length above the limit.
-pub fn first_limited(bytes: &[u8], limit: u16) -> Limited
+#[tactic(auto, unfolding(crate::specs::Answers::first_limited, stored::specs::Stored::on_stored, base::specs::Base::whether))]
+pub fn first_limited(bytes: &[u8], limit: u16) -> Result<Form, Unread>
     ensures { result ≡ first_limited bytes.now limit }
 {
     if stored::too_long(bytes, limit) {
-        return Limited::Long;
+        return Err(Unread::Long);
     }
-    match stored::decode_first(bytes) {
-        Stored::Whole(form) => Limited::Whole(form),
-        Stored::Broken(place) => Limited::Broken(place),
-    }
+    Ok(stored::decode_first(bytes)?)
 }
 
 // What the reader answers for what `bytes` hold, with refusals 3 and 10 of the stored form.
-pub fn answer_of(bytes: &[u8], held: Limited, events: &mut [u64], steps: &mut [u32]) -> Parsed
+#[tactic(auto, unfolding(crate::specs::Answers::held_answer, crate::specs::Answers::on_limited))]
+pub fn answer_of(
+    bytes: &[u8],
+    held: Result<Form, Unread>,
+    events: &mut [u64],
+    steps: &mut [u32],
+) -> Result<Parsed, Refusal>
     ensures { (result, events.new, steps.new) ≡ held_answer bytes.now held events.old steps.old }
 {
     match held {
-        Limited::Whole(form) => parse_form(bytes, form, events, steps),
-        Limited::Long => Parsed::Refused(Refusal {
-            number: BAD_LENGTH,
-            place: 0,
-        }),
-        Limited::Broken(place) => Parsed::Refused(Refusal {
-            number: BROKEN_FORM,
-            place: place,
-        }),
+        Ok(form) => parse_form(bytes, form, events, steps),
+        Err(Unread::Long) => Err(Refusal::new(BAD_LENGTH, 0)),
+        Err(Unread::Broken(place)) => Err(Refusal::new(BROKEN_FORM, place)),
     }
 }
 
 // The text for what `bytes` hold.
 pub fn put_held(
     bytes: &[u8],
-    held: Limited,
+    held: Result<Form, Unread>,
     events: &mut [u64],
     steps: &mut [u32],
     out: &mut [u8],

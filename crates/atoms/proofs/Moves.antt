@@ -1,5 +1,6 @@
 -- What the rules take: a rule that takes a kind goes on beyond it, so each rule that makes a node here takes a token before it ends, and each turn over the names of a path leaves fewer tokens.
 -- By the machine's own moves (a taking call goes on within the list, any other stays) and one step a rule. Assumes nothing.
+use Rattle.std.proofs.Common.{Result, Ok, Err, Some, None}
 use mathlib.Core.Path.{◌≡◌, sym, ap, subst, ◌∙◌}
 use mathlib.Core.List.{List}
 use Prim.Native.Nat.{ℕ, suc, ◌-◌, ◌≤◌, ◌<◌}
@@ -10,13 +11,12 @@ use borrow.Author.Tests.{ltb-false}
 use Rattle.base.specs.Base.{Next, again, done}
 use Rattle.base.proofs.Cases.{whether_by, bound_by}
 use Rattle.input.specs.SyntaxKind.{AS_KW, COLON2}
-use Rattle.input.specs.Input.{Tokens, lent}
+use Rattle.input.specs.Input.{Tokens}
+use Rattle.input.specs.declared.Refusal.{Refusal}
 use Rattle.event.specs.declared.State.{State}
 use Rattle.parser.specs.declared.Marker.{Marker}
 use Rattle.parser.specs.declared.CompletedMarker.{CompletedMarker}
-use Rattle.parser.specs.declared.Taken.{Taken}
-use Rattle.parser.specs.declared.Taken.TheVariants as taken
-use Rattle.parser.specs.Calls.{start_of, precede_of, error_of, eat_of, bump_any_of}
+use Rattle.parser.specs.Calls.{Taken, start_of, precede_of, error_of, eat_of, bump_any_of}
 use Rattle.parser.specs.Prog.{Prog, refuse, start, precede, bump_any, then, Reply, fine, bad, Ran, run, on_taken}
 use Rattle.parser.proofs.Moves.{ReplyBy, Kept, Stays, Goes, opened_by, moved_by, taken_by, then_by, start_moves, precede_moves, error_moves, eat_moves, bump_moves, onward as never_falls}
 use Rattle.atoms.specs.declared.Turn.{Turn}
@@ -132,7 +132,7 @@ path_goes ts m s ev =
 
 -- at a token of the list, one can be taken
 abbrev pub TakenIn : Tokens → State → List ℕ → Taken × List ℕ → Type 0
-TakenIn ts s ev t = elim t.0 [ taken.Took s1 ↦ Goes ts s ev s1 t.1 | taken.No ↦ ⊥ | taken.Refused r ↦ Unit {0} ]
+TakenIn ts s ev t = elim t.0 [ Ok (Some s1) ↦ Goes ts s ev s1 t.1 | Ok None ↦ ⊥ | Err r ↦ Unit {0} ]
 
 pub bump_inside : (ts : Tokens) (s : State) (ev : List ℕ) → s.pos.0 < length ts.kinds → TakenIn ts s ev (bump_any_of ts s ev)
 unfolding bump_any_of
@@ -143,9 +143,9 @@ bump_inside ts s ev l =
 
 pub inside_go : {A : Type 0} (ts : Tokens) (q : ℕ) (s : State) (ev : List ℕ) (p r : Prog A) → q ≤ s.pos.0 → (x : Taken) (e : List ℕ) → TakenIn ts s ev (x, e) → Beyond ts q (on_taken (x, e) (λ s1 e. run ts p s1 e) (λ e. run ts r s e) (λ n e. (bad n, e)))
 unfolding on_taken
-inside_go ts q s ev p r l (taken.Took s1) e h = beyond_on ts q p s1 e (omega arith, omega arith)
-inside_go ts q s ev p r l taken.No e h = absurd h
-inside_go ts q s ev p r l (taken.Refused n) e h = tt
+inside_go ts q s ev p r l (Ok (Some s1)) e h = beyond_on ts q p s1 e (omega arith, omega arith)
+inside_go ts q s ev p r l (Ok None) e h = absurd h
+inside_go ts q s ev p r l (Err n) e h = tt
 
 pub any_inside : {A : Type 0} (ts : Tokens) (q : ℕ) (p r : Prog A) (s : State) (ev : List ℕ) → q ≤ s.pos.0 → s.pos.0 < length ts.kinds → Beyond ts q (run ts (bump_any p r) s ev)
 unfolding run
@@ -165,13 +165,10 @@ err_and_bump_beyond ts s ev l =
     (λ s1 o e h. any_inside ts s.pos.0 _ _ s1 e (omega arith) (omega arith)) (λ _ _ _. tt)
 
 -- for the measures of the loops
-module _ (ks js : List ℕ) (s s1 : State) (ev e : List ℕ) where
-  abbrev ts : Tokens
-  ts = lent ks js
-
-  fell : Past ts s.pos.0 s1 → length ks - s1.pos.0 < length ks - s.pos.0
+module _ (ts : Tokens) (s s1 : State) (ev e : List ℕ) where
+  fell : Past ts s.pos.0 s1 → length ts.kinds - s1.pos.0 < length ts.kinds - s.pos.0
   fell h = omega arith
 
-  pub path_less : (m : CompletedMarker) {m1 : CompletedMarker} (x : Turn) → (turn_reply x, e) ≡ run ts (path_turn ts m) s ev → x ≡ turn.Again s1 m1 → length ks - s1.pos.0 < length ks - s.pos.0
+  pub path_less : (m : CompletedMarker) {m1 : CompletedMarker} (x : Result Turn Refusal) → (turn_reply x, e) ≡ run ts (path_turn ts m) s ev → x ≡ Ok (turn.Again s1 m1) → length ts.kinds - s1.pos.0 < length ts.kinds - s.pos.0
   unfolding turn_reply
-  path_less m x p q = fell (subst (λ (r : Ran (Next CompletedMarker CompletedMarker)). Turns ts s.pos.0 r) (sym p ∙ ap (λ (y : Turn). (turn_reply y, e)) q) (path_goes ts m s ev))
+  path_less m x p q = fell (subst (λ (r : Ran (Next CompletedMarker CompletedMarker)). Turns ts s.pos.0 r) (sym p ∙ ap (λ (y : Result Turn Refusal). (turn_reply y, e)) q) (path_goes ts m s ev))

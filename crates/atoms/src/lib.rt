@@ -6,13 +6,11 @@ pub mod paths;
 pub mod types;
 
 use event::State;
-use input::Refusal;
 use parser::CompletedMarker;
 
 // What a turn over operators, or over the names of a path, answers.
-#[derive(Clone, Copy)]
+#[derive(Clone, Copy, Debug, PartialEq, Eq)]
 pub enum Turn {
     Again(State, CompletedMarker),
     Done(State, CompletedMarker),
-    Refused(Refusal),
 }

@@ -1,8 +1,7 @@
 // Types of casts: paths.
 ghost use Rattle.std.specs.Prelude.{◌≡◌};
-ghost use Rattle.input.specs.Input.{lent};
 ghost use Rattle.parser.specs.Prog.{run};
-ghost use Rattle.atoms.specs.Views.{closed_reply, moved_reply};
+ghost use Rattle.atoms.specs.Views.{moved_reply};
 ghost use Rattle.atoms.specs.Atom.{after_type, path_type, cast_type, cast_expr};
 
 use crate::atom::lead;
@@ -11,76 +10,60 @@ use event::State;
 use input::syntax_kind::{
     AS_KW, CAST_EXPR, EXPECTED_TYPE, IDENT, L_ANGLE, L_PAREN, LTEQ, OUTSIDE_CUT, PATH_TYPE,
 };
-use input::{Refusal, kind_at, nth_at};
+use input::{Refusal, Tokens};
 use operators::token_set::outside_type;
+use parser::CompletedMarker;
 use parser::inner::{complete, error};
-use parser::{Closed, CompletedMarker, Moved, Opened};
 
 // e.g. 82 as i32
 pub fn cast_expr(
-    kinds: &&[u8],
-    joints: &&[u8],
+    tokens: &Tokens,
     events: &mut [u64],
     state: State,
     m: CompletedMarker,
-) -> Closed
-    ensures { (closed_reply result, events.new) ≡ run (lent kinds.now.now joints.now.now) (cast_expr (lent kinds.now.now joints.now.now) m) state events.old }
+) -> Result<(State, CompletedMarker), Refusal>
+    ensures { (result, events.new) ≡ run tokens.now (cast_expr tokens.now m) state events.old }
 {
-    match lead(kinds, joints, events, state, m, AS_KW) {
-        Opened::Open(s1, o) => match cast_type(kinds, joints, events, s1) {
-            Moved::On(s2) => complete(events, s2, o, CAST_EXPR),
-            Moved::Refused(r) => Closed::Refused(r),
-        },
-        Opened::Refused(r) => Closed::Refused(r),
-    }
+    let (state, o) = lead(tokens, events, state, m, AS_KW)?;
+    let state = cast_type(tokens, events, state)?;
+    complete(events, state, o, CAST_EXPR)
 }
 
-fn cast_type(kinds: &&[u8], joints: &&[u8], events: &mut [u64], state: State) -> Moved
-    ensures { (moved_reply result, events.new) ≡ run (lent kinds.now.now joints.now.now) (cast_type (lent kinds.now.now joints.now.now)) state events.old }
+fn cast_type(tokens: &Tokens, events: &mut [u64], state: State) -> Result<State, Refusal>
+    ensures { (moved_reply result, events.new) ≡ run tokens.now (cast_type tokens.now) state events.old }
 {
     let at = state.pos.0;
-    let kind = kind_at(*kinds, at);
+    let kind = tokens.kind_at(at);
     if kind == IDENT {
-        return path_type(kinds, joints, events, state);
+        return path_type(tokens, events, state);
     }
     if outside_type(kind) {
-        return Moved::Refused(Refusal {
-            number: OUTSIDE_CUT,
-            place: at,
-        });
+        return Err(Refusal::new(OUTSIDE_CUT, at));
     }
     error(events, state, EXPECTED_TYPE)
 }
 
-fn path_type(kinds: &&[u8], joints: &&[u8], events: &mut [u64], state: State) -> Moved
-    ensures { (moved_reply result, events.new) ≡ run (lent kinds.now.now joints.now.now) (path_type (lent kinds.now.now joints.now.now)) state events.old }
+fn path_type(tokens: &Tokens, events: &mut [u64], state: State) -> Result<State, Refusal>
+    ensures { (moved_reply result, events.new) ≡ run tokens.now (path_type tokens.now) state events.old }
 {
-    match path_node(kinds, joints, events, state, PATH_TYPE) {
-        Closed::Done(s1, _) => after_type(kinds, joints, events, s1),
-        Closed::Refused(r) => Moved::Refused(r),
-    }
+    let (state, _) = path_node(tokens, events, state, PATH_TYPE)?;
+    after_type(tokens, events, state)
 }
 
 // Arguments of a type are outside the cut; `<=` is an operator.
-fn after_type(kinds: &&[u8], joints: &&[u8], events: &mut [u64], state: State) -> Moved
-    ensures { (moved_reply result, events.new) ≡ run (lent kinds.now.now joints.now.now) (after_type (lent kinds.now.now joints.now.now)) state events.old }
+fn after_type(tokens: &Tokens, events: &mut [u64], state: State) -> Result<State, Refusal>
+    ensures { (moved_reply result, events.new) ≡ run tokens.now (after_type tokens.now) state events.old }
 {
     let at = state.pos.0;
-    let kind = kind_at(*kinds, at);
+    let kind = tokens.kind_at(at);
     if kind == L_PAREN {
-        return Moved::Refused(Refusal {
-            number: OUTSIDE_CUT,
-            place: at,
-        });
+        return Err(Refusal::new(OUTSIDE_CUT, at));
     }
     if kind != L_ANGLE {
-        return Moved::On(state);
+        return Ok(state);
     }
-    if nth_at(*kinds, *joints, at, LTEQ) {
-        return Moved::On(state);
+    if tokens.nth_at(at, LTEQ) {
+        return Ok(state);
     }
-    Moved::Refused(Refusal {
-        number: OUTSIDE_CUT,
-        place: at,
-    })
+    Err(Refusal::new(OUTSIDE_CUT, at))
 }

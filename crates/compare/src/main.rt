@@ -1,9 +1,9 @@
 // Prints how the steps of two formula revisions differ: two stored forms, one after the other, on standard input.
 #![tactic(auto)]
 
-use answers::{Room, Text, Tokens};
+use answers::{Room, Text, Tokens, given};
 use std::io;
-use stored::{Limited, Section, Span};
+use stored::{Form, Section, Unread};
 
 // The bytes of two forms of the longest kind, and one behind them: "nothing after".
 const FORMS: usize = 4 * (Section::HEAD + Tokens::LIMIT as usize) + 1;
@@ -12,32 +12,18 @@ const ROOM: usize = Room::EACH * (Tokens::LIMIT as usize) + Room::EACH;
 // A line for each step: an index and two values are at most as long as two numbers.
 const TEXT: usize = Text::HEAD + 2 * Text::LINE * ROOM;
 
-// The first bytes of a buffer.
-fn first(buf: &[u8], have: usize) -> &[u8] {
-    stored::part(buf, Span { at: 0, len: have })
-}
-
-// The bytes from a place on.
-fn from(bytes: &[u8], at: usize) -> &[u8] {
-    if at <= bytes.len() {
-        return &bytes[at..];
-    }
-    &bytes[..0]
-}
-
 // What stands behind the first form; nothing where that is refused.
-fn behind(bytes: &[u8], held: Limited) -> &[u8] {
-    match held {
-        Limited::Whole(form) => from(bytes, form.end),
-        Limited::Long => &bytes[..0],
-        Limited::Broken(_) => &bytes[..0],
-    }
+fn behind(bytes: &[u8], held: Result<Form, Unread>) -> &[u8] {
+    let Ok(form) = held else {
+        return &[];
+    };
+    bytes.get(form.end..).unwrap_or(&[])
 }
 
 fn main(rt: HostRuntime) -> io::Result<()> {
     let mut buf = [0u8; FORMS];
     let have = streams::read_full(&mut rt.stdin(), &mut buf)?;
-    let bytes = first(&buf, have);
+    let bytes = given(&buf, have);
     let mut events = [0u64; ROOM];
     let mut steps = [0u32; ROOM];
     let mut other_steps = [0u32; ROOM];
@@ -48,5 +34,5 @@ fn main(rt: HostRuntime) -> io::Result<()> {
     let other_held = stored::decode_limited(rest, Tokens::LIMIT);
     let other = answers::answer_of(rest, other_held, &mut events, &mut other_steps);
     let end = revision::put_revisions(&mut out, 0, answer, &steps, other, &other_steps);
-    rt.write_all(first(&out, end))
+    rt.write_all(given(&out, end))
 }

@@ -1,4 +1,5 @@
 -- Every call keeps what a run keeps. `Fit` says what a state and a lent list are that a run can stand at; each call goes by its tests in the order of its rule, and its change of the list is seen as events pushed, a start changed, or the last one popped. Assumes nothing.
+use Rattle.std.proofs.Common.{Ok, Err}
 use mathlib.Core.Path.{◌≡◌, refl, sym, ap, subst, ◌∙◌}
 use mathlib.Core.Bool.{true, false}
 use mathlib.Core.List.{List, [], ◌∷◌, ◌++◌, map}
@@ -12,19 +13,12 @@ use borrow.Author.Tests.{ltb-true, eqb-true}
 use Rattle.base.specs.Base.{whether}
 use Rattle.base.proofs.Cases.{whether_by, bound_by}
 use Rattle.input.specs.SyntaxKind.{FLOAT_NUMBER, FIELD_EXPR}
-use Rattle.input.specs.Input.{Tokens, token_limit, kind_at, stands, present, width_of, is_raw, is_kind, is_node, is_code, on_checked}
+use Rattle.input.specs.Input.{Tokens, token_limit, kind_at, stands, present, width_of, is_raw, is_kind, is_node, is_code, on_checked, Checked}
 use Rattle.input.specs.declared.Refusal.{Refusal}
-use Rattle.input.specs.declared.Checked.{Checked}
-use Rattle.input.specs.declared.Checked.TheVariants.{Fine, Refused}
 use Rattle.event.specs.Event.{live, spent, named, Event, start, finish, token, split, error, flag_of, node_of, offset_of, view, decodes, start_entry, preceding_entry, field_entry, finish_entry, token_entry, split_entry, error_entry, named_entry, spent_entry, extended_entry, parented_entry, capacity_of, fresh, event_limit}
 use Rattle.event.specs.declared.State.{State}
 use Rattle.parser.specs.Calls.{marker, completed, room_for, is_open, is_closed, is_last, start_of, complete_of, abandon_of, precede_of, extend_of, eat_of, bump_any_of, error_of, split_dot_of, split_two_of, split_of}
 use Rattle.parser.specs.Public.{calling, start_call, complete_call, abandon_call, precede_call, extend_call, eat_call, bump_any_call, error_call, split_call}
-use Rattle.parser.specs.declared.Opened.TheVariants as opened
-use Rattle.parser.specs.declared.Closed.TheVariants as shut
-use Rattle.parser.specs.declared.Moved.TheVariants as moved
-use Rattle.parser.specs.declared.Taken.TheVariants as taken
-use Rattle.parser.specs.declared.Parted.TheVariants as parted
 use Rattle.demand.specs.Runs.{Call, starts, completes, abandons, precedes, extends, takes, takes_any, errs, splits, Tok, tok, float, Heard, accepted, declined, opened_as, closed_as, moved_as, taken_as, parted_as, heard, ends_in_dot, took_of, closed_of, call_of, Place, step_to, run_on, run_of}
 use Rattle.demand.specs.Demand.{seen}
 use Rattle.demand.proofs.Events.{History, Anchored, Lands}
@@ -253,22 +247,22 @@ module _ (ts : Tokens) (s : State) (ev : List ℕ) (took : List Tok) (closed : L
       (λ _. refl)) (λ _. refl)
 
   -- the checks before the work: a refused call changes nothing
-  calling_by : {A : Type 0} (says : A → Heard) (c : Call) (check : Checked) (refused : Refusal → A) (work : Unit {0} → A × List ℕ) → ((r : Refusal) → says (refused r) ≡ declined) → (check ≡ Fine → Via says c (work tt)) → Via says c (calling check refused ev work)
+  calling_by : {A : Type 0} (says : A → Heard) (c : Call) (check : Checked) (refused : Refusal → A) (work : Unit {0} → A × List ℕ) → ((r : Refusal) → says (refused r) ≡ declined) → (check ≡ Ok tt → Via says c (work tt)) → Via says c (calling check refused ev work)
   unfolding calling on_checked
-  calling_by says c Fine refused work d w = w refl
-  calling_by says c (Refused r) refused work d w = rw (d r)
+  calling_by says c (Ok _) refused work d w = w refl
+  calling_by says c (Err r) refused work d w = rw (d r)
 
   goes : (c : Call) → Goes ts s ev took closed c (call_of ts s ev c)
   unfolding call_of start_call complete_call abandon_call precede_call extend_call eat_call bump_any_call error_call split_call
-  goes starts = calling_by opened_as starts _ opened.Refused _ (λ _. refl) (λ _. goes_start)
-  goes (completes m k) = calling_by closed_as (completes m k) _ shut.Refused _ (λ _. refl) (λ _. goes_complete m k)
-  goes (abandons m) = calling_by moved_as (abandons m) _ moved.Refused _ (λ _. refl) (λ _. goes_abandon m)
-  goes (precedes m) = calling_by opened_as (precedes m) _ opened.Refused _ (λ _. refl) (λ _. goes_precede m)
-  goes (extends c m) = calling_by closed_as (extends c m) _ shut.Refused _ (λ _. refl) (λ _. goes_extend c m)
-  goes (takes k) = calling_by taken_as (takes k) _ taken.Refused _ (λ _. refl) (λ q. goes_eat k (looked_fine ts s ev q).0)
-  goes takes_any = calling_by taken_as takes_any _ taken.Refused _ (λ _. refl) (λ q. goes_any (looked_fine ts s ev q).0 (λ h. looked_raw ts s.pos.0 h (looked_fine ts s ev q).1))
-  goes (errs c) = calling_by moved_as (errs c) _ moved.Refused _ (λ _. refl) (λ _. goes_error c)
-  goes (splits m) = calling_by parted_as (splits m) _ parted.Refused _ (λ _. refl) (λ q. goes_split m (looked_fine ts s ev q).0)
+  goes starts = calling_by opened_as starts _ Err _ (λ _. refl) (λ _. goes_start)
+  goes (completes m k) = calling_by closed_as (completes m k) _ Err _ (λ _. refl) (λ _. goes_complete m k)
+  goes (abandons m) = calling_by moved_as (abandons m) _ Err _ (λ _. refl) (λ _. goes_abandon m)
+  goes (precedes m) = calling_by opened_as (precedes m) _ Err _ (λ _. refl) (λ _. goes_precede m)
+  goes (extends c m) = calling_by closed_as (extends c m) _ Err _ (λ _. refl) (λ _. goes_extend c m)
+  goes (takes k) = calling_by taken_as (takes k) _ Err _ (λ _. refl) (λ q. goes_eat k (looked_fine ts s ev q).0)
+  goes takes_any = calling_by taken_as takes_any _ Err _ (λ _. refl) (λ q. goes_any (looked_fine ts s ev q).0 (λ h. looked_raw ts s.pos.0 h (looked_fine ts s ev q).1))
+  goes (errs c) = calling_by moved_as (errs c) _ Err _ (λ _. refl) (λ _. goes_error c)
+  goes (splits m) = calling_by parted_as (splits m) _ Err _ (λ _. refl) (λ q. goes_split m (looked_fine ts s ev q).0)
 
 abbrev pub Fitting : Tokens → Place → Type 0
 Fitting ts z = Fit ts z.state z.events z.took z.closed

@@ -1,4 +1,5 @@
 -- What the checks of a whole token list say of any place in it: a call that looks ahead finds nothing bad. And the numbers that the checks refuse by. Assumes nothing.
+use Rattle.std.proofs.Common.{Ok, Err}
 use mathlib.Core.Path.{◌≡◌, refl, sym, subst, ap, ◌∙◌}
 use mathlib.Core.List.{List}
 use mathlib.Core.Bool.{Bool, true, false}
@@ -9,14 +10,12 @@ use lib.Dec.{ltb, leb, eqb}
 use borrow.Author.Tests.{ltb-true, ltb-false}
 use Rattle.base.specs.Base.{bound}
 use Rattle.base.proofs.Cases.{whether_by}
-use Rattle.input.specs.Input.{Tokens, token_limit, width_limit, is_raw, is_joint, first_off, lengths_of, bytes_of, on_checked, tokens_of, ahead}
+use Rattle.input.specs.Input.{Tokens, token_limit, width_limit, is_raw, is_joint, first_off, lengths_of, bytes_of, on_checked, tokens_of, ahead, Checked}
 use Rattle.input.specs.declared.Refusal.{Refusal}
-use Rattle.input.specs.declared.Checked.{Checked}
-use Rattle.input.specs.declared.Checked.TheVariants.{Fine, Refused}
 use Rattle.input.proofs.Laws.{not_both}
 use Rattle.demand.proofs.Tokens.{lengths_fine as few_tokens}
 
-pub no_both : {r : Refusal} → Fine ≡ Refused r → ⊥
+pub no_both : {r : Refusal} → ◌≡◌ {A = Checked} (Ok tt) (Err r) → ⊥
 no_both q = let z : ◌≡◌ {A = ℕ} 0 1 = cc in omega arith
 
 here_or_later : {P : Type 0} (at i : ℕ) → at ≤ i → (at ≡ i → P) → (at + 1 ≤ i → P) → P
@@ -27,14 +26,14 @@ here_or_later {P} at i h f g = go (ltb at i) refl
     go false p = f (omega (arith, ltb-false at i p))
 
 -- one check after another
-both_fine : (c d : Checked) → on_checked c (λ _. d) Refused ≡ Fine → (c ≡ Fine) × (d ≡ Fine)
+both_fine : (c d : Checked) → on_checked c (λ _. d) Err ≡ Ok tt → (c ≡ Ok tt) × (d ≡ Ok tt)
 unfolding on_checked
-both_fine Fine d q = (refl, q)
-both_fine (Refused r) d q = absurd (no_both (sym q))
+both_fine (Ok _) d q = (refl, q)
+both_fine (Err r) d q = absurd (no_both (sym q))
 
-pub then_fine : (c : Checked) (d : Unit {0} → Checked) → c ≡ Fine → d tt ≡ Fine → on_checked c d Refused ≡ Fine
+pub then_fine : (c : Checked) (d : Unit {0} → Checked) → c ≡ Ok tt → d tt ≡ Ok tt → on_checked c d Err ≡ Ok tt
 unfolding on_checked
-then_fine c d p q = ap (λ x. on_checked x d Refused) p ∙ q
+then_fine c d p q = ap (λ x. on_checked x d Err) p ∙ q
 
 -- every entry of a stretch is good, and back
 module _ (good : ℕ → Bool) (l : List ℕ) where
@@ -56,33 +55,33 @@ module _ (good : ℕ → Bool) (l : List ℕ) where
 
 -- the checks of a stretch
 module _ (ts : Tokens) (at k : ℕ) where
-  pub bytes_good : bytes_of ts at k ≡ Fine → (at + k ≤ first_off is_raw ts.kinds at k) × (at + k ≤ first_off is_joint ts.joints at k)
+  pub bytes_good : bytes_of ts at k ≡ Ok tt → (at + k ≤ first_off is_raw ts.kinds at k) × (at + k ≤ first_off is_joint ts.joints at k)
   unfolding bytes_of bound
   bytes_good =
-      whether_by (λ x. x ≡ Fine → (at + k ≤ first_off is_raw ts.kinds at k) × (at + k ≤ first_off is_joint ts.joints at k)) (ltb (first_off is_raw ts.kinds at k) (at + k)) _ _ (λ _ q. absurd (no_both (sym q)))
-      (λ p. whether_by (λ x. x ≡ Fine → (at + k ≤ first_off is_raw ts.kinds at k) × (at + k ≤ first_off is_joint ts.joints at k)) (ltb (first_off is_joint ts.joints at k) (at + k)) _ _ (λ _ q. absurd (no_both (sym q)))
+      whether_by (λ x. x ≡ Ok tt → (at + k ≤ first_off is_raw ts.kinds at k) × (at + k ≤ first_off is_joint ts.joints at k)) (ltb (first_off is_raw ts.kinds at k) (at + k)) _ _ (λ _ q. absurd (no_both (sym q)))
+      (λ p. whether_by (λ x. x ≡ Ok tt → (at + k ≤ first_off is_raw ts.kinds at k) × (at + k ≤ first_off is_joint ts.joints at k)) (ltb (first_off is_joint ts.joints at k) (at + k)) _ _ (λ _ q. absurd (no_both (sym q)))
       (λ r _. (ltb-false _ _ p, ltb-false _ _ r)))
 
-  pub good_bytes : at + k ≤ first_off is_raw ts.kinds at k → at + k ≤ first_off is_joint ts.joints at k → bytes_of ts at k ≡ Fine
+  pub good_bytes : at + k ≤ first_off is_raw ts.kinds at k → at + k ≤ first_off is_joint ts.joints at k → bytes_of ts at k ≡ Ok tt
   unfolding bytes_of bound
   good_bytes a b =
-      whether_by (λ x. x ≡ Fine) (ltb (first_off is_raw ts.kinds at k) (at + k)) _ _ (λ p. absurd (omega (arith, ltb-true (first_off is_raw ts.kinds at k) (at + k) p)))
-      (λ _. whether_by (λ x. x ≡ Fine) (ltb (first_off is_joint ts.joints at k) (at + k)) _ _ (λ p. absurd (omega (arith, ltb-true (first_off is_joint ts.joints at k) (at + k) p))) (λ _. refl))
+      whether_by (λ x. x ≡ Ok tt) (ltb (first_off is_raw ts.kinds at k) (at + k)) _ _ (λ p. absurd (omega (arith, ltb-true (first_off is_raw ts.kinds at k) (at + k) p)))
+      (λ _. whether_by (λ x. x ≡ Ok tt) (ltb (first_off is_joint ts.joints at k) (at + k)) _ _ (λ p. absurd (omega (arith, ltb-true (first_off is_joint ts.joints at k) (at + k) p))) (λ _. refl))
 
 ahead_within : (ts : Tokens) (at : ℕ) → at ≤ length ts.kinds → at + ahead ts at ≤ length ts.kinds
 unfolding ahead bound
 ahead_within ts at h = whether_by (λ x. at + x ≤ length ts.kinds) (ltb (length ts.kinds - at) width_limit) _ _ (λ _. omega arith) (λ p. omega (arith, ltb-false (length ts.kinds - at) width_limit p))
 
 -- a list that passes the checks
-module _ (ts : Tokens) (fine : tokens_of ts ≡ Fine) where
-  checked : (lengths_of ts ≡ Fine) × (bytes_of ts 0 (length ts.kinds) ≡ Fine)
+module _ (ts : Tokens) (fine : tokens_of ts ≡ Ok tt) where
+  checked : (lengths_of ts ≡ Ok tt) × (bytes_of ts 0 (length ts.kinds) ≡ Ok tt)
   unfolding tokens_of
   checked = both_fine (lengths_of ts) (bytes_of ts 0 (length ts.kinds)) fine
 
-  pub lengths_fine : lengths_of ts ≡ Fine
+  pub lengths_fine : lengths_of ts ≡ Ok tt
   lengths_fine = checked.0
 
-  pub bytes_fine : (at : ℕ) → at ≤ length ts.kinds → bytes_of ts at (ahead ts at) ≡ Fine
+  pub bytes_fine : (at : ℕ) → at ≤ length ts.kinds → bytes_of ts at (ahead ts at) ≡ Ok tt
   bytes_fine at h =
       let b = bytes_good ts 0 (length ts.kinds) checked.1 in
       let w = ahead_within ts at h in
@@ -95,8 +94,8 @@ module _ (ts : Tokens) (fine : tokens_of ts ≡ Fine) where
 
 -- the numbers of the checks
 abbrev pub By1_3 : Checked → Type 0
-By1_3 Fine = Unit {0}
-By1_3 (Refused r) = (1 ≤ r.number) × (r.number ≤ 3)
+By1_3 (Ok _) = Unit {0}
+By1_3 (Err r) = (1 ≤ r.number) × (r.number ≤ 3)
 
 bytes_by : (ts : Tokens) (at k : ℕ) → By1_3 (bytes_of ts at k)
 unfolding bytes_of bound
@@ -106,10 +105,10 @@ lengths_by : (ts : Tokens) → By1_3 (lengths_of ts)
 unfolding lengths_of
 lengths_by ts = whether_by By1_3 (eqb (length ts.kinds) (length ts.joints)) _ _ (λ _. whether_by By1_3 (leb (length ts.kinds) token_limit) _ _ (λ _. tt) (λ _. omega arith)) (λ _. omega arith)
 
-on_checked_by : (c d : Checked) → By1_3 c → By1_3 d → By1_3 (on_checked c (λ _. d) Refused)
+on_checked_by : (c d : Checked) → By1_3 c → By1_3 d → By1_3 (on_checked c (λ _. d) Err)
 unfolding on_checked
-on_checked_by Fine d p q = q
-on_checked_by (Refused r) d p q = p
+on_checked_by (Ok _) d p q = q
+on_checked_by (Err r) d p q = p
 
 pub tokens_by : (ts : Tokens) → By1_3 (tokens_of ts)
 unfolding tokens_of

@@ -1,4 +1,5 @@
 -- The entries below the count as a list of events: what an entry is seen as, an entry changed, pushed, popped or looked at, an open and a closed marker's; and that all of them decode. Assumes nothing.
+use Rattle.std.proofs.Common.{Ok, Err}
 use mathlib.Core.Path.{◌≡◌, refl, ap, ◌∙◌}
 use mathlib.Core.Bool.{Bool, true, false}
 use mathlib.Core.List.{List, [], ◌∷◌, ◌++◌, map, append_assoc}
@@ -11,9 +12,7 @@ use lib.Dec.{ltb, eqb}
 use borrow.Author.Tests.{ltb-true, ltb-false, leb-true, eqb-true, eqb-false}
 use Rattle.base.specs.Base.{whether}
 use Rattle.base.proofs.Cases.{whether_by}
-use Rattle.input.specs.Input.{Tokens, token_limit, bytes_of, ahead, on_checked}
-use Rattle.input.specs.declared.Checked.{Checked}
-use Rattle.input.specs.declared.Checked.TheVariants.{Fine, Refused}
+use Rattle.input.specs.Input.{Tokens, token_limit, bytes_of, ahead, on_checked, Checked}
 use Rattle.event.specs.Event.{live, named, Event, start, finish, token, split, error, START, TOKEN_TAG, SPLIT_TAG, ERROR_TAG, tag_of, rank_of, flag_of, node_of, offset_of, status_of, view, decodes, event_limit, capacity_of}
 use Rattle.event.specs.declared.State.{State}
 use Rattle.parser.specs.Calls.{room_for, is_open, is_closed}
@@ -90,12 +89,12 @@ unfolding room_for
 has_room k s ev q = leb-true _ _ q
 
 -- the checks of a call that reads tokens
-checked_fine : (c : Checked) (f : Unit {0} → Checked) → on_checked c f Refused ≡ Fine → (c ≡ Fine) × (f tt ≡ Fine)
+checked_fine : (c : Checked) (f : Unit {0} → Checked) → on_checked c f Err ≡ Ok tt → (c ≡ Ok tt) × (f tt ≡ Ok tt)
 unfolding on_checked
-checked_fine Fine f q = (refl, q)
-checked_fine (Refused r) f q = absurd (let z : ◌≡◌ {A = ℕ} 0 1 = cc in omega arith)
+checked_fine (Ok _) f q = (refl, q)
+checked_fine (Err r) f q = absurd (let z : ◌≡◌ {A = ℕ} 0 1 = cc in omega arith)
 
-pub looked_fine : (ts : Tokens) (s : State) (ev : List ℕ) → looked_of ts s ev ≡ Fine → (length ts.kinds ≤ token_limit) × (bytes_of ts s.pos.0 (ahead ts s.pos.0) ≡ Fine)
+pub looked_fine : (ts : Tokens) (s : State) (ev : List ℕ) → looked_of ts s ev ≡ Ok tt → (length ts.kinds ≤ token_limit) × (bytes_of ts s.pos.0 (ahead ts s.pos.0) ≡ Ok tt)
 unfolding looked_of
 looked_fine ts s ev q = let t = checked_fine _ _ q in (lengths_fine ts t.0, (checked_fine _ _ t.1).1)
 

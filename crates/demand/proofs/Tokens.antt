@@ -1,4 +1,5 @@
 -- Tokens of the lent list: a kind that is present is its raw parts where it stands, inside the list, and the checks of a call leave only fit bytes at the position. Assumes nothing.
+use Rattle.std.proofs.Common.{Ok}
 use mathlib.Core.Path.{◌≡◌, refl, ◌∙◌}
 use mathlib.Core.Bool.{Bool, true}
 use mathlib.Core.List.{List, [], ◌∷◌, ◌++◌, append_assoc, append-nil}
@@ -12,9 +13,7 @@ use borrow.Author.Tests.{ltb-false, leb-true, eq-eqb, lt-ltb}
 use Rattle.base.specs.Base.{whether}
 use Rattle.base.proofs.Cases.{whether_by, bound_by}
 use Rattle.input.specs.SyntaxKind.{FLOAT_NUMBER, SHREQ, PATH_TYPE, EXPECTED_COMMA}
-use Rattle.input.specs.Input.{Tokens, token_limit, width_limit, kind_at, stands, is_glued, row_of, row_parts, parts_of, width_of, follow, present, is_raw, is_kind, is_node, is_code, first_off, lengths_of, bytes_of, ahead}
-use Rattle.input.specs.declared.Checked.{Checked}
-use Rattle.input.specs.declared.Checked.TheVariants.{Fine}
+use Rattle.input.specs.Input.{Tokens, token_limit, width_limit, kind_at, stands, is_glued, row_of, row_parts, parts_of, width_of, follow, present, is_raw, is_kind, is_node, is_code, first_off, lengths_of, bytes_of, ahead, Checked}
 use Rattle.input.proofs.Laws.{both_true, within_bounds, raw_bounds, raw_not_glued, parts_raw, stands_says}
 use Rattle.demand.specs.Lists.{gather}
 use Rattle.demand.specs.Runs.{Tok, tok, float}
@@ -88,10 +87,10 @@ unfolding present width_of follow stands whether
 raw_present ts p h r = rw (parts_raw (kind_at ts p) (raw_not_glued (kind_at ts p) r), lt-ltb p (length ts.kinds) h) (eq-eqb (kind_at ts p) (kind_at ts p) refl, refl)
 
 -- the checks of a call
-pub lengths_fine : (ts : Tokens) → lengths_of ts ≡ Fine → length ts.kinds ≤ token_limit
+pub lengths_fine : (ts : Tokens) → lengths_of ts ≡ Ok tt → length ts.kinds ≤ token_limit
 unfolding lengths_of
 lengths_fine ts =
-    let P : Checked → Type 0 = λ r. r ≡ Fine → length ts.kinds ≤ token_limit in
+    let P : Checked → Type 0 = λ r. r ≡ Ok tt → length ts.kinds ≤ token_limit in
     whether_by P (eqb (length ts.kinds) (length ts.joints)) _ _
     (λ _. whether_by P (leb (length ts.kinds) token_limit) _ _ (λ h _. leb-true _ _ h) (λ _ q. absurd (let z : ◌≡◌ {A = ℕ} 0 1 = cc in omega arith)))
     (λ _ q. absurd (let z : ◌≡◌ {A = ℕ} 0 1 = cc in omega arith))
@@ -100,10 +99,10 @@ first_on : (fine : ℕ → Bool) (l : List ℕ) (p k : ℕ) → p + suc k ≤ fi
 unfolding first_off
 first_on fine l p k = whether_by (λ i. p + suc k ≤ i → fine (get_or l p 0) ≡ true) (fine (get_or l p 0)) _ _ (λ q _. q) (λ _ h. absurd (omega arith))
 
-bytes_fine : (ts : Tokens) (p k : ℕ) → bytes_of ts p (suc k) ≡ Fine → is_raw (kind_at ts p) ≡ true
+bytes_fine : (ts : Tokens) (p k : ℕ) → bytes_of ts p (suc k) ≡ Ok tt → is_raw (kind_at ts p) ≡ true
 unfolding bytes_of
 bytes_fine ts p k =
-    let P : Checked → Type 0 = λ r. r ≡ Fine → is_raw (kind_at ts p) ≡ true in
+    let P : Checked → Type 0 = λ r. r ≡ Ok tt → is_raw (kind_at ts p) ≡ true in
     bound_by P (first_off is_raw ts.kinds p (suc k)) _
     (whether_by P (ltb (first_off is_raw ts.kinds p (suc k)) (p + suc k)) _ _
     (λ _ q. absurd (let z : ◌≡◌ {A = ℕ} 0 1 = cc in omega arith))
@@ -116,7 +115,7 @@ ahead_some ts p h =
     bound_by (λ n. 0 < n) (length ts.kinds - p) _
     (whether_by (λ n. 0 < n) (ltb (length ts.kinds - p) 3) _ _ (λ _. omega arith) (λ _. omega arith))
 
-pub looked_raw : (ts : Tokens) (p : ℕ) → p < length ts.kinds → bytes_of ts p (ahead ts p) ≡ Fine → is_raw (kind_at ts p) ≡ true
+pub looked_raw : (ts : Tokens) (p : ℕ) → p < length ts.kinds → bytes_of ts p (ahead ts p) ≡ Ok tt → is_raw (kind_at ts p) ≡ true
 looked_raw ts p h q = go (ahead ts p) refl
   where
     go : (n : ℕ) → ahead ts p ≡ n → is_raw (kind_at ts p) ≡ true

@@ -1,4 +1,5 @@
 -- Demand 3 and the number of steps, of any run over any lent lists: what a run keeps makes its events sound, and the pass writes the steps of the events that are seen. Assumes nothing.
+use Rattle.std.proofs.Common.{Result, Ok, Err}
 use mathlib.Core.Path.{◌≡◌, refl, sym, ap, ◌∙◌}
 use mathlib.Core.Bool.{Bool, true, false, false≢true}
 use mathlib.Core.List.{List, [], ◌∷◌, ◌++◌, map}
@@ -12,11 +13,10 @@ use borrow.Author.Tests.{le-leb, lt-leb, ltb-true, ltb-false}
 use Rattle.base.proofs.Laws.{whether_yes, whether_no, called_is}
 use Rattle.input.specs.SyntaxKind.{UNSOUND, STEPS_FULL}
 use Rattle.input.specs.Input.{Tokens, refusal}
+use Rattle.input.specs.declared.Refusal.{Refusal}
 use Rattle.event.specs.Event.{live, spent, named, Event, start, finish, token, split, error}
 use Rattle.event.specs.declared.State.{State}
 use Rattle.process.specs.Process.{sound_of, count_of, process_of}
-use Rattle.process.specs.declared.Processed.{Processed}
-use Rattle.process.specs.declared.Processed.TheVariants.{Steps, Refused}
 use Rattle.demand.specs.Lists.{tally, gather, count}
 use Rattle.demand.specs.Runs.{Call, declined, call_of, Place, step_to, run_of}
 use Rattle.demand.specs.Steps.{Step, code_of, step_from, token_in, entered, enters, leaves}
@@ -87,17 +87,17 @@ module _ (s : State) (ev : List ℕ) (sound : sound_of s ev ≡ true) where
   exactly_so_many_steps = record { steps = ss; many = omega (arith, length_steps, paired_steps false (seen s ev) tt (sound_paired s ev sound)); gives = given }
 
 -- what an answer's number and kind say
-steps_refused : {n : ℕ} {s : State} {number place : ℕ} → Steps n s ≡ Refused (refusal number place) → ◌≡◌ {A = ℕ} 0 1
+steps_refused : {n : ℕ} {s : State} {number place : ℕ} → ◌≡◌ {A = Result (ℕ × State) Refusal} (Ok (n, s)) (Err (refusal number place)) → ◌≡◌ {A = ℕ} 0 1
 steps_refused q = cc
 
-steps_number : {m n : ℕ} {s t : State} → Steps m s ≡ Steps n t → m ≡ n
-steps_number q = cc
+steps_number : {m n : ℕ} {s t : State} → ◌≡◌ {A = Result (ℕ × State) Refusal} (Ok (m, s)) (Ok (n, t)) → m ≡ n
+steps_number {m} {n} {s} {t} q = let e : ◌≡◌ {A = ℕ × State} (m, s) (n, t) = cc in ap (λ x. x.0) e
 
-refusal_number : {a b p r : ℕ} → ◌≡◌ {A = Processed} (Refused (refusal a p)) (Refused (refusal b r)) → a ≡ b
+refusal_number : {a b p r : ℕ} → ◌≡◌ {A = Result (ℕ × State) Refusal} (Err (refusal a p)) (Err (refusal b r)) → a ≡ b
 refusal_number {a} {b} {p} {r} q = let e : refusal a p ≡ refusal b r = cc in ap (λ x. x.number) e
 
 -- the numbers that the pass wrote
-steps_written : (s : State) (ev : List ℕ) (ss : List Step) → Gives s ev ss → (st : List ℕ) (n : ℕ) (s' : State) (ev' st' : List ℕ) → process_of s ev st ≡ (Steps n s', ev', st') → take n st' ≡ map code_of ss
+steps_written : (s : State) (ev : List ℕ) (ss : List Step) → Gives s ev ss → (st : List ℕ) (n : ℕ) (s' : State) (ev' st' : List ℕ) → process_of s ev st ≡ (Ok (n, s'), ev', st') → take n st' ≡ map code_of ss
 steps_written s ev ss g st n s' ev' st' q = go (ltb (length st) (length ss)) refl
   where
     go : (b : Bool) → ltb (length st) (length ss) ≡ b → take n st' ≡ map code_of ss
@@ -126,7 +126,7 @@ module _ (ts : Tokens) (ev : List ℕ) (cs : List Call) where
   whole = record { sound = runs_are_sound; pass = exactly_so_many_steps z.state z.events runs_are_sound; demand = good_demand ts z (run_of_fits ts ev cs).good }
 
   -- so the pass is never refused by 9
-  pub never_unsound : (st : List ℕ) (place : ℕ) → (process_of z.state z.events st).0 ≡ Refused (refusal UNSOUND place) → ⊥
+  pub never_unsound : (st : List ℕ) (place : ℕ) → (process_of z.state z.events st).0 ≡ Err (refusal UNSOUND place) → ⊥
   never_unsound st place q = go (ltb (length st) (length whole.pass.steps)) refl
     where
       go : (b : Bool) → ltb (length st) (length whole.pass.steps) ≡ b → ⊥
@@ -134,7 +134,7 @@ module _ (ts : Tokens) (ev : List ℕ) (cs : List Call) where
       go false b = let e = whole.pass.gives.room st (ltb-false _ _ b) in let w : ◌≡◌ {A = ℕ} 0 1 = steps_refused (sym (ap (λ r. r.0) e) ∙ q) in omega arith
 
   -- demand 3, where the pass is not refused: of its numbers, read as steps
-  module _ (st : List ℕ) (n : ℕ) (s : State) (ev' st' : List ℕ) (q : process_of z.state z.events st ≡ (Steps n s, ev', st')) where
+  module _ (st : List ℕ) (n : ℕ) (s : State) (ev' st' : List ℕ) (q : process_of z.state z.events st ≡ (Ok (n, s), ev', st')) where
     abbrev given_steps : List Step
     given_steps = map step_from (take n st')
 

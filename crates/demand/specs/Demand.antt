@@ -1,11 +1,10 @@
 -- The customer's third demand, of a run that stands at z and whose pass gives the steps ss; and all that holds of a run and the pass after it.
-use Rattle.std.specs.Prelude.{◌≡◌, true, List, [], ◌∷◌, ◌++◌, map, ℕ, ◌+◌, ◌≤◌, ◌<◌, length, take, drop, replicate}
+use Rattle.std.specs.Prelude.{Ok, Err, ◌≡◌, true, List, [], ◌∷◌, ◌++◌, map, ℕ, ◌+◌, ◌≤◌, ◌<◌, length, take, drop, replicate}
 use Rattle.input.specs.SyntaxKind.{FLOAT_NUMBER, STEPS_FULL}
 use Rattle.input.specs.Input.{Tokens, stands, parts_of, present, width_of, refusal}
 use Rattle.event.specs.Event.{live, spent, named, Event, start, finish, token, split, error, view, fresh}
 use Rattle.event.specs.declared.State.{State}
 use Rattle.process.specs.Process.{sound_of, process_of}
-use Rattle.process.specs.declared.Processed.TheVariants as processed
 use Rattle.demand.specs.Lists.{tally, gather, count}
 use Rattle.demand.specs.Runs.{Tok, tok, float, ends_in_dot, Place}
 use Rattle.demand.specs.Steps.{Step, code_of, step_from, token_in, entered, enters, leaves}
@@ -41,8 +40,8 @@ pub record Demand (ts : Tokens) (z : Place) (ss : List Step) : Type 0 where
 
 -- what the pass gives of a state and its events, for any step list: so many steps if there is room, written first in the list, with the events all 0 and the state fresh; otherwise refusal 5 at the position, and nothing changed. Each of these numbers is read as the step that it was written for.
 pub record Gives (s : State) (ev : List ℕ) (ss : List Step) : Type 0 where
-  pub room : (st : List ℕ) → length ss ≤ length st → process_of s ev st ≡ (processed.Steps (length ss) fresh, replicate (length ev) 0, map code_of ss ++ drop (length ss) st)
-  pub full : (st : List ℕ) → length st < length ss → process_of s ev st ≡ (processed.Refused (refusal STEPS_FULL s.pos.0), ev, st)
+  pub room : (st : List ℕ) → length ss ≤ length st → process_of s ev st ≡ (Ok (length ss, fresh), replicate (length ev) 0, map code_of ss ++ drop (length ss) st)
+  pub full : (st : List ℕ) → length st < length ss → process_of s ev st ≡ (Err (refusal STEPS_FULL s.pos.0), ev, st)
   pub reads : map step_from (map code_of ss) ≡ ss
 
 -- the events so far, as the event record says what an entry is

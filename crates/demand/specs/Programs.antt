@@ -1,7 +1,6 @@
 -- Programs of machine calls, as the rules of the grammar are: each of them is a run of calls.
-use Rattle.std.specs.Prelude.{◌≡◌, true, List, ℕ}
+use Rattle.std.specs.Prelude.{Ok, ◌≡◌, true, List, ℕ}
 use Rattle.input.specs.Input.{Tokens, tokens_of}
-use Rattle.input.specs.declared.Checked.TheVariants as checked
 use Rattle.event.specs.Event.{fresh}
 use Rattle.event.specs.declared.State.{State}
 use Rattle.parser.specs.Prog.{Prog, fine, run}
@@ -16,8 +15,8 @@ pub record Run (ts : Tokens) (ev : List ℕ) (s : State) (e : List ℕ) : Type 0
 
 -- over tokens that pass the checks, a program that gives an answer from the fresh state stands where a run of the public calls does
 abbrev pub ProgramsAreRuns : Type 1
-ProgramsAreRuns = (A : Type 0) (ts : Tokens) (ev : List ℕ) → tokens_of ts ≡ checked.Fine → (p : Prog A) (s : State) (a : A) (e : List ℕ) → run ts p fresh ev ≡ (fine s a, e) → Run ts ev s e
+ProgramsAreRuns = (A : Type 0) (ts : Tokens) (ev : List ℕ) → tokens_of ts ≡ Ok tt → (p : Prog A) (s : State) (a : A) (e : List ℕ) → run ts p fresh ev ≡ (fine s a, e) → Run ts ev s e
 
 -- so the events that it leaves are sound
 abbrev pub ProgramsAreSound : Type 1
-ProgramsAreSound = (A : Type 0) (ts : Tokens) (ev : List ℕ) → tokens_of ts ≡ checked.Fine → (p : Prog A) (s : State) (a : A) (e : List ℕ) → run ts p fresh ev ≡ (fine s a, e) → sound_of s e ≡ true
+ProgramsAreSound = (A : Type 0) (ts : Tokens) (ev : List ℕ) → tokens_of ts ≡ Ok tt → (p : Prog A) (s : State) (a : A) (e : List ℕ) → run ts p fresh ev ≡ (fine s a, e) → sound_of s e ≡ true

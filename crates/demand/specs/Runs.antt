@@ -1,22 +1,12 @@
 -- Calls of the machine as data, and a run: "any sequence of machine calls from a fresh state, each on the state the one before gave, accepted or refused, markers open or not, over one token list and one event list that nobody else writes".
-use Rattle.std.specs.Prelude.{ℕ, Bool, List, [], ◌∷◌, ◌++◌, eqb}
+use Rattle.std.specs.Prelude.{Ok, Err, Some, None, ℕ, Bool, List, [], ◌∷◌, ◌++◌, eqb}
 use Rattle.base.specs.Base.{whether}
 use Rattle.input.specs.SyntaxKind.{FIELD_EXPR}
 use Rattle.input.specs.Input.{Tokens, kind_at, joint_at, width_of}
 use Rattle.event.specs.Event.{fresh}
 use Rattle.event.specs.declared.State.{State}
-use Rattle.parser.specs.Calls.{marker, completed}
+use Rattle.parser.specs.Calls.{marker, completed, Opened, Closed, Moved, Taken, Parted}
 use Rattle.parser.specs.Public.{start_call, complete_call, abandon_call, precede_call, extend_call, eat_call, bump_any_call, error_call, split_call}
-use Rattle.parser.specs.declared.Opened.{Opened}
-use Rattle.parser.specs.declared.Opened.TheVariants as opened
-use Rattle.parser.specs.declared.Closed.{Closed}
-use Rattle.parser.specs.declared.Closed.TheVariants as closed
-use Rattle.parser.specs.declared.Moved.{Moved}
-use Rattle.parser.specs.declared.Moved.TheVariants as moved
-use Rattle.parser.specs.declared.Taken.{Taken}
-use Rattle.parser.specs.declared.Taken.TheVariants as taken
-use Rattle.parser.specs.declared.Parted.{Parted}
-use Rattle.parser.specs.declared.Parted.TheVariants as parted
 
 -- the nine calls, with any marker, node, kind or code, fit or not; extends has the closed marker first
 pub data Call : Type 0 where
@@ -41,26 +31,26 @@ pub data Heard : Type 0 where
   declined : Heard
 
 abbrev pub opened_as : Opened → Heard
-opened_as (opened.Open s m) = accepted s
-opened_as (opened.Refused r) = declined
+opened_as (Ok (s, m)) = accepted s
+opened_as (Err r) = declined
 
 abbrev pub closed_as : Closed → Heard
-closed_as (closed.Done s m) = accepted s
-closed_as (closed.Refused r) = declined
+closed_as (Ok (s, m)) = accepted s
+closed_as (Err r) = declined
 
 abbrev pub moved_as : Moved → Heard
-moved_as (moved.On s) = accepted s
-moved_as (moved.Refused r) = declined
+moved_as (Ok s) = accepted s
+moved_as (Err r) = declined
 
 abbrev pub taken_as : Taken → Heard
-taken_as (taken.Took s) = accepted s
-taken_as taken.No = declined
-taken_as (taken.Refused r) = declined
+taken_as (Ok (Some s)) = accepted s
+taken_as (Ok None) = declined
+taken_as (Err r) = declined
 
 abbrev pub parted_as : Parted → Heard
-parted_as (parted.Split s m) = accepted s
-parted_as parted.No = declined
-parted_as (parted.Refused r) = declined
+parted_as (Ok (Some (s, m))) = accepted s
+parted_as (Ok None) = declined
+parted_as (Err r) = declined
 
 abbrev pub heard : {A : Type 0} → (A → Heard) → A × List ℕ → Heard × List ℕ
 heard says r = (says r.0, r.1)

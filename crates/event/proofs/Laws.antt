@@ -2,7 +2,7 @@
 use mathlib.Core.Path.{◌≡◌, refl, sym, ap, ◌∙◌}
 use mathlib.Core.List.{List}
 use mathlib.Core.Bool.{Bool, true, false, false≢true}
-use Prim.Native.Nat.{ℕ, zero, suc, ◌+◌, ◌-◌, ◌≤◌, ◌<◌}
+use Prim.Native.Nat.{ℕ, zero, suc, ◌≤◌, ◌<◌, min}
 use native.Mathlib.Omega.{arith}
 use lib.ListN.{length}
 use lib.Dec.{ltb, leb, eqb}
@@ -294,20 +294,9 @@ module _ (x k : ℕ) where
   unfolding whether
   rank_test p t q = rw (sym p ∙ t, q)
 
-  pub no_start : {tag : ℕ} → tag ≡ tag_of x → (tag ≡ START → ⊥) → false ≡ whether (eqb (tag_of x) START) (λ _. eqb (rank_of x) k) (λ _. false)
+  pub no_start : {tag : ℕ} → tag ≡ tag_of x → (tag ≡ START → ⊥) → eqb tag START ≡ whether (eqb (tag_of x) START) (λ _. eqb (rank_of x) k) (λ _. false)
   unfolding whether
-  no_start p t = rw (ne_eqb (tag_of x) START (λ q. t (p ∙ q)))
-
--- room for k more beside the count, by what the code has for the capacity
-module _ {cap room : ℕ} (count k : ℕ) (p : room ≡ cap) where
-  pub over : room < count → false ≡ leb (count + k) cap
-  over h = sym (lt-leb (count + k) cap (omega arith))
-
-  pub beyond : count ≤ room → room - count < k → false ≡ leb (count + k) cap
-  beyond h l = sym (lt-leb (count + k) cap (omega arith))
-
-  pub roomy : count ≤ room → k ≤ room - count → true ≡ leb (count + k) cap
-  roomy h l = sym (le-leb (count + k) cap (omega arith))
+  no_start {tag} p t = rw (← p, ne_eqb tag START t)
 
 -- a count in range is within the list and within the limit
 pub capacity_within : (ev : List ℕ) → (capacity_of ev ≤ length ev) × (capacity_of ev ≤ event_limit)
@@ -323,3 +312,20 @@ in_range_count n s ev =
     whether_by (λ z. z ≡ true → (s.count ≤ length ev) × (s.count ≤ event_limit)) (leb s.count (capacity_of ev)) _ _
     (λ p q. let h = leb-true s.count (capacity_of ev) p in (omega (arith, (capacity_within ev).0, h), omega (arith, (capacity_within ev).1, h)))
     (λ p q. absurd (false≢true q))
+
+-- the capacity is the less of the two, and a state in range, by what the code has for the capacity
+pub capacity_is : (ev : List ℕ) → min (length ev) event_limit ≡ capacity_of ev
+unfolding capacity_of
+capacity_is ev =
+    whether_by (λ z. min (length ev) event_limit ≡ z) (ltb (length ev) event_limit) _ _
+    (λ p. omega (arith, ltb-true (length ev) event_limit p))
+    (λ p. omega (arith, ltb-false (length ev) event_limit p))
+
+module _ (n : ℕ) (s : State) (ev : List ℕ) {room : ℕ} (p : room ≡ capacity_of ev) where
+  pub within : s.count ≤ room → leb s.pos.0 n ≡ in_range n s ev
+  unfolding in_range whether
+  within h = rw (← p, le-leb s.count room h)
+
+  pub out_of : room < s.count → leb s.count room ≡ in_range n s ev
+  unfolding in_range whether
+  out_of h = rw (← p, lt-leb s.count room h)

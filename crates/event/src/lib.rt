@@ -6,8 +6,9 @@ ghost use Rattle.event.specs.Event.{START, tag_of, rank_of, flag_of, node_of, of
 
 use input::Position;
 
-// Where the machine stands: the raw position, and how many events of the lent list are used.
-#[derive(Clone, Copy)]
+// Where the machine stands: the raw position, and how many events of the lent list are used. It goes by value beside the list, and no struct
+// holds both: the state by value and the list lent is a rule of the project.
+#[derive(Clone, Copy, Debug, PartialEq, Eq)]
 pub struct State {
     pub pos: Position,
     pub count: usize,
@@ -27,7 +28,7 @@ impl State {
     }
 }
 
-// Tags.
+// Tags. They and the ranks stay numbers, where an enum might stand: they are bits of an entry, a number of the lent list, which need not be an event.
 pub const START: u64 = 1;
 
 pub const FINISH: u64 = 2;
@@ -105,7 +106,7 @@ fn flag_by(set: bool) -> u64
     ensures value { result ≡ flag_by set }
     ensures upper_bound { result < 2 }
 {
-    if set { 1 } else { 0 }
+    u64::from(set)
 }
 
 pub fn start_entry() -> u64
@@ -125,7 +126,7 @@ pub fn preceding_entry() -> u64
 pub fn field_entry(node: u8) -> u64
     ensures { result ≡ field_entry node }
 {
-    entry_of(START, NAMED, 0, node as u64, 0)
+    entry_of(START, NAMED, 0, u64::from(node), 0)
 }
 
 pub fn finish_entry() -> u64
@@ -137,27 +138,26 @@ pub fn finish_entry() -> u64
 pub fn token_entry(kind: u8, width: u8) -> u64
     ensures { result ≡ token_entry kind width }
 {
-    TOKEN_TAG + RANK_PLACE * (width as u64) + NODE_PLACE * (kind as u64)
+    TOKEN_TAG + RANK_PLACE * u64::from(width) + NODE_PLACE * u64::from(kind)
 }
 
 pub fn split_entry(dot: bool) -> u64
     ensures { result ≡ split_entry (flag_by dot) }
 {
-    let flag = flag_by(dot);
-    entry_of(SPLIT_TAG, 0, flag, 0, 0)
+    entry_of(SPLIT_TAG, 0, flag_by(dot), 0, 0)
 }
 
 pub fn error_entry(code: u8) -> u64
     ensures { result ≡ error_entry code }
 {
-    entry_of(ERROR_TAG, 0, 0, code as u64, 0)
+    entry_of(ERROR_TAG, 0, 0, u64::from(code), 0)
 }
 
 // A start named.
 pub fn named_entry(x: u64, node: u8) -> u64
     ensures { result ≡ named_entry x node }
 {
-    entry_of(START, NAMED, flag_of(x), node as u64, offset_of(x))
+    entry_of(START, NAMED, flag_of(x), u64::from(node), offset_of(x))
 }
 
 // A start abandoned.
@@ -171,36 +171,28 @@ pub fn spent_entry(x: u64) -> u64
 pub fn extended_entry(x: u64, offset: u32) -> u64
     ensures { result ≡ extended_entry x offset }
 {
-    entry_of(START, SPENT, flag_of(x), 0, offset as u64)
+    entry_of(START, SPENT, flag_of(x), 0, u64::from(offset))
 }
 
 // A start named, with a forward parent.
 pub fn parented_entry(x: u64, node: u8, offset: u32) -> u64
     ensures { result ≡ parented_entry x node offset }
 {
-    entry_of(START, NAMED, flag_of(x), node as u64, offset as u64)
+    entry_of(START, NAMED, flag_of(x), u64::from(node), u64::from(offset))
 }
 
 // An open marker's start: "open until completed, abandoned, extended or split".
 pub fn is_live(x: u64) -> bool
     ensures { result ≡ is_live x }
 {
-    if tag_of(x) == START {
-        rank_of(x) == LIVE
-    } else {
-        false
-    }
+    tag_of(x) == START && rank_of(x) == LIVE
 }
 
 // A closed marker's start: "closed once named".
 pub fn is_named(x: u64) -> bool
     ensures { result ≡ is_named x }
 {
-    if tag_of(x) == START {
-        rank_of(x) == NAMED
-    } else {
-        false
-    }
+    tag_of(x) == START && rank_of(x) == NAMED
 }
 
 // A start as its entry says it: the start that it is seen as, made again.
@@ -208,31 +200,23 @@ fn start_again(x: u64) -> u64
     requires { tag_of x ≡ START }
     ensures { result ≡ entry_of (view x) }
 {
-    let rank = rank_of(x);
-    if SPENT < rank {
-        return entry_of(START, NAMED, flag_of(x), node_of(x), offset_of(x));
+    match rank_of(x) {
+        rank @ (LIVE | SPENT) => entry_of(START, rank, flag_of(x), 0, offset_of(x)),
+        _ => entry_of(START, NAMED, flag_of(x), node_of(x), offset_of(x)),
     }
-    entry_of(START, rank, flag_of(x), 0, offset_of(x))
 }
 
 // The entry of the event that an entry is seen as.
 fn again(x: u64) -> u64
     ensures { result ≡ entry_of (view x) }
 {
-    let tag = tag_of(x);
-    if tag == START {
-        return start_again(x);
+    match tag_of(x) {
+        START => start_again(x),
+        TOKEN_TAG => entry_of(TOKEN_TAG, rank_of(x), 0, node_of(x), 0),
+        SPLIT_TAG => entry_of(SPLIT_TAG, 0, flag_of(x), 0, 0),
+        ERROR_TAG => entry_of(ERROR_TAG, 0, 0, node_of(x), 0),
+        _ => FINISH,
     }
-    if tag == TOKEN_TAG {
-        return entry_of(TOKEN_TAG, rank_of(x), 0, node_of(x), 0);
-    }
-    if tag == SPLIT_TAG {
-        return entry_of(SPLIT_TAG, 0, flag_of(x), 0, 0);
-    }
-    if tag == ERROR_TAG {
-        return entry_of(ERROR_TAG, 0, 0, node_of(x), 0);
-    }
-    FINISH
 }
 
 pub fn decodes(x: u64) -> bool
@@ -245,15 +229,15 @@ pub fn decodes(x: u64) -> bool
 pub fn event_at(events: &[u64], at: usize) -> u64
     ensures { result ≡ get_or events.now at 0 }
 {
-    if at < events.len() { events[at] } else { 0 }
+    events.get(at).copied().unwrap_or(0)
 }
 
-// Stores an entry; nothing past the end.
-pub fn put(events: &mut [u64], at: usize, x: u64)
-    ensures { events.new ≡ set events.old at x }
+// Stores an entry or a step; nothing past the end. It tests the place by hand, since of a write through `get_mut` a proof knows the list's length alone.
+pub fn put<T: Copy>(list: &mut [T], at: usize, x: T)
+    ensures { list.new ≡ set list.old at x }
 {
-    if at < events.len() {
-        events[at] = x;
+    if at < list.len() {
+        list[at] = x;
     }
 }
 
@@ -262,11 +246,7 @@ pub fn capacity(events: &[u64]) -> usize
     ensures value { result ≡ capacity_of events.now }
     ensures upper_bound { (result ≤ event_limit) × (result ≤ length events.now) }
 {
-    if events.len() < State::LIMIT {
-        events.len()
-    } else {
-        State::LIMIT
-    }
+    events.len().min(State::LIMIT)
 }
 
 // There is room for k events more.
@@ -274,26 +254,13 @@ pub fn room_for(events: &[u64], state: State, k: usize) -> bool
     ensures value { result ≡ leb (state.count + k) (capacity_of events.now) }
     ensures k_bound { result ≡ true → (state.count + k ≤ event_limit) × (state.count + k ≤ length events.now) }
 {
-    let count = state.count;
     let room = capacity(events);
-    if room < count {
-        return false;
-    }
-    if room - count < k {
-        return false;
-    }
-    true
+    state.count <= room && k <= room - state.count
 }
 
 // "the count is at most the list's length and at most 65,552, and the position at most n"
 pub fn in_range(events: &[u64], state: State, n: usize) -> bool
     ensures { result ≡ in_range n state events.now }
 {
-    let count = state.count;
-    let at = state.pos.0;
-    let room = capacity(events);
-    if room < count {
-        return false;
-    }
-    at <= n
+    state.count <= capacity(events) && state.pos.0 <= n
 }

@@ -11,19 +11,13 @@ use Rattle.base.specs.Base.{whether, bound}
 use Rattle.base.proofs.Cases.{whether_by}
 use Rattle.input.specs.SyntaxKind.{FLOAT_NUMBER, FIELD_EXPR, PATH_TYPE}
 use Rattle.input.specs.Input.{Tokens, stands, present, width_of, is_kind, is_node, is_code}
-use Rattle.event.specs.Event.{offset_of, is_live, is_named, event_limit, capacity_of}
+use Rattle.event.specs.Event.{offset_of, is_live, is_named, event_limit, capacity_of, START, NAMED, tag_of, rank_of, finish_entry, split_entry, start_entry, preceding_entry, named_entry, field_entry}
 use Rattle.event.specs.declared.State.{State}
-use Rattle.parser.specs.Calls.{marker, completed, pushed, went, room_for, start_of, complete_of, is_last, abandon_of, precede_of, extend_of, eat_of, bump_any_of, error_of, split_dot_of, split_two_of, split_of}
+use Rattle.parser.specs.Calls.{marker, completed, pushed, went, room_for, start_of, complete_of, is_last, abandon_of, precede_of, extend_of, eat_of, bump_any_of, error_of, split_dot_of, split_two_of, split_of, Opened, Closed, Moved, Taken, Parted}
 use Rattle.parser.specs.Prog.{Prog, start, complete, abandon, precede, extend, eat, bump_any, error, split, bad, run, on_opened, on_closed, on_moved, on_taken, on_parted}
 use Rattle.parser.proofs.Moves.{ReplyBy, present_within}
 use Rattle.parser.specs.declared.Marker.{Marker}
 use Rattle.parser.specs.declared.CompletedMarker.{CompletedMarker}
-use Rattle.parser.specs.declared.Opened.{Opened}
-use Rattle.parser.specs.declared.Closed.{Closed}
-use Rattle.parser.specs.declared.Moved.{Moved}
-use Rattle.parser.specs.declared.Taken.{Taken}
-use Rattle.parser.specs.declared.Parted.{Parted}
-use Rattle.event.specs.Event.{START, NAMED, tag_of, rank_of, finish_entry, split_entry, start_entry, preceding_entry, named_entry, field_entry}
 use Rattle.facts.proofs.Does.{World, size, Allowed, Post, Does, On, Here, Live, Shut, Fit, lower, fits, full_fine, on_set, on_move, open_yes, closed_yes, clash}
 
 -- entries that calls write

@@ -1,4 +1,5 @@
 -- How the public reader ends on a list that passes the checks: in steps that meet demand 3 of a run of calls, whose position is what was consumed; or in a refusal by 6 or 7, by 4 with too few events, or by 5 with too few steps. By what every reading does, and what every run of calls gives the pass. Assumes nothing.
+use Rattle.std.proofs.Common.{Ok, Err}
 use mathlib.Core.Path.{◌≡◌, refl, sym, subst, ◌∙◌}
 use mathlib.Core.List.{List, [], ◌∷◌, map}
 use mathlib.Core.Bool.{Bool, true, false}
@@ -9,20 +10,16 @@ use lib.ListN.{length, take}
 use lib.Dec.{ltb}
 use borrow.Author.Tests.{ltb-true, ltb-false}
 use Rattle.input.specs.SyntaxKind.{STEPS_FULL}
-use Rattle.input.specs.Input.{Tokens, depth_limit, tokens_of, on_checked}
+use Rattle.input.specs.Input.{Tokens, depth_limit, tokens_of, on_checked, Checked}
 use Rattle.input.specs.declared.Refusal.{Refusal}
-use Rattle.input.specs.declared.Checked.{Checked}
-use Rattle.input.specs.declared.Checked.TheVariants.{Fine}
 use Rattle.event.specs.Event.{live, spent, named, Event, start, finish, token, split, error, view, capacity_of, fresh}
 use Rattle.event.specs.declared.State.{State}
 use Rattle.parser.specs.declared.CompletedMarker.{CompletedMarker}
 use Rattle.parser.specs.Prog.{Reply, fine, bad, run, Perhaps}
 use Rattle.parser.proofs.Moves.{ReplyBy, Kept}
-use Rattle.process.specs.Process.{process_of}
-use Rattle.process.specs.declared.Processed.{Processed}
+use Rattle.process.specs.Process.{process_of, Processed}
 use Rattle.grammar.specs.Expressions.{expr_bp}
 use Rattle.reader.specs.Reader.{Answer, refusing, on_processed, on_read, top_of, parse_of}
-use Rattle.reader.specs.declared.Parsed.TheVariants as parsed
 use Rattle.demand.specs.Lists.{tally}
 use Rattle.demand.specs.Runs.{Call, run_of}
 use Rattle.demand.specs.Demand.{seen, steps_in, Whole}
@@ -62,7 +59,7 @@ abbrev pub Right : Tokens → List ℕ → List ℕ → Refusal → Type 0
 Right ts ev st r = Allowed (world ts ev) r ⊎ ((r.number ≡ STEPS_FULL) × (length st < 11 * length ts.kinds + 4))
 
 abbrev pub Ends : Tokens → List ℕ → List ℕ → Answer → Type 0
-Ends ts ev st a = elim a.0 [ parsed.Steps c n ↦ Met ts ev st c n a.1 a.2 | parsed.Refused r ↦ Right ts ev st r ]
+Ends ts ev st a = elim a.0 [ Ok got ↦ Met ts ev st got.consumed got.steps a.1 a.2 | Err r ↦ Right ts ev st r ]
 
 module _ (ts : Tokens) (ev st : List ℕ) where
   -- the pass after a run of calls at which the reading ended
@@ -93,9 +90,9 @@ module _ (ts : Tokens) (ev st : List ℕ) where
       (subst (λ (t : State). Ends ts ev st (on_processed t.pos.0 (run_of ts ev k.calls).events st (process_of t (run_of ts ev k.calls).events st))) k.state_is (pass_ends k.calls a at f))
   reply_ends (bad r) e was d k = inl d
 
-  pub reader_ends : tokens_of ts ≡ Fine → Ends ts ev st (parse_of ts ev st)
+  pub reader_ends : tokens_of ts ≡ Ok tt → Ends ts ev st (parse_of ts ev st)
   unfolding parse_of on_checked top_of
   reader_ends q =
       let d = (reading (world ts ev) depth_limit 1 (omega arith) fresh ev (record { inside = omega arith; low = omega arith; top = omega arith; room = refl; kept = λ i _. refl }) (omega arith)).does in
-      subst (λ (c : Checked). Ends ts ev st (on_checked c (λ _. on_read st (run ts (expr_bp depth_limit ts 1) fresh ev)) (λ r. (parsed.Refused r, ev, st)))) (sym q)
+      subst (λ (c : Checked). Ends ts ev st (on_checked c (λ _. on_read st (run ts (expr_bp depth_limit ts 1) fresh ev)) (λ r. (Err r, ev, st)))) (sym q)
       (reply_ends (run ts (expr_bp depth_limit ts 1) fresh ev).0 (run ts (expr_bp depth_limit ts 1) fresh ev).1 refl d (program_is_a_run ts q ev (expr_bp depth_limit ts 1)))

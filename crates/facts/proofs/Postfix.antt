@@ -1,4 +1,5 @@
 -- What the postfix forms do, for any inner reading that does what a reading does (`Reads`): arguments, calls, indices, fields, method calls, and the loop over them. The loop's turns are paid by tokens, and by the float whose dot was read. Assumes nothing.
+use Rattle.std.proofs.Common.{Some, None}
 use mathlib.Core.Path.{◌≡◌, refl, sym, subst}
 use mathlib.Core.List.{List}
 use mathlib.Core.Bool.{Bool, true, false}
@@ -11,7 +12,7 @@ use Rattle.base.proofs.Cases.{whether_by}
 use Rattle.input.specs.SyntaxKind.{IDENT, FLOAT_NUMBER, AWAIT_KW, L_PAREN, L_BRACK, COMMA, DOT, QUESTION, COLON2, FIELD_EXPR, EXPECTED_METHOD_NAME, EXPECTED_FIELD, EXPECTED_COMMA}
 use Rattle.input.specs.Input.{Tokens, kind_at, joint_at, present}
 use Rattle.event.specs.declared.State.{State}
-use Rattle.parser.specs.Prog.{Prog, then, Perhaps, some, none}
+use Rattle.parser.specs.Prog.{Prog, then, Perhaps}
 use Rattle.parser.specs.declared.Marker.{Marker}
 use Rattle.parser.specs.declared.CompletedMarker.{CompletedMarker}
 use Rattle.parser.proofs.Moves.{present_within}
@@ -26,7 +27,7 @@ pub record Read (W : World) (ev : List ℕ) (s : State) (s1 : State) (a : Perhap
   pub on : On W s.count ev s1 e
   pub ahead : s.pos.0 ≤ s1.pos.0
   pub few : s1.count + 11 * s.pos.0 ≤ s.count + 11 * s1.pos.0 + 4
-  pub got : elim a as (λ _. Type 0) [ some m ↦ (s.pos.0 < s1.pos.0) × (s1.count + 11 * s.pos.0 + 1 ≤ s.count + 11 * s1.pos.0) × Shut s.count m s1 e | none ↦ Unit {0} ]
+  pub got : elim a as (λ _. Type 0) [ Some m ↦ (s.pos.0 < s1.pos.0) × (s1.count + 11 * s.pos.0 + 1 ≤ s.count + 11 * s1.pos.0) × Shut s.count m s1 e | None ↦ Unit {0} ]
 
 abbrev pub Reads : World → (ℕ → Rule) → Type 0
 Reads W read = (b : ℕ) → 1 ≤ b → (s : State) (ev : List ℕ) → Here W s ev → Room W 4 s → Does W (read b) (Read W ev s) s ev
@@ -61,7 +62,7 @@ module _ {W : World} {read : ℕ → Rule} (reads : Reads W read) where
       let l : s.pos.0 < s1.pos.0 = p.past (at_hand W.ts s.pos.0 (eqb-true _ COMMA q) (omega arith)) in
       does_give (record { on = on_on i.on.low i.on p.erred.on; ahead = omega (arith, i.ahead); few = omega (arith, i.few, p.erred.few) }, omega (arith, p.erred.on.inside))))
       (λ _. does_then (reads 1 (omega arith) s e (here i.on) (omega (arith, i.few)))
-      (λ s1. elim [ some m ↦ λ e1 g. after_argument_lem i r g.on g.got.0 g.got.1 | none ↦ λ e1 g. does_give (record { on = on_on i.on.low i.on g.on; ahead = omega (arith, i.ahead, g.ahead); few = omega (arith, i.few, g.few) }) ])))))
+      (λ s1. elim [ Some m ↦ λ e1 g. after_argument_lem i r g.on g.got.0 g.got.1 | None ↦ λ e1 g. does_give (record { on = on_on i.on.low i.on g.on; ahead = omega (arith, i.ahead, g.ahead); few = omega (arith, i.few, g.few) }) ])))))
 
   module _ {s : State} {ev : List ℕ} (h : Here W s ev) where
     argues : Room W 4 s → Does W (arguments W.ts read) (Came W s.count ev s 0 0 4) s ev

@@ -1,4 +1,5 @@
 -- What every reading does: the left part, the operator loop, and the reading itself, by induction on the depth. It takes a token where it yields an expression, pushes no more than its tokens pay for, keeps what stood before, and is refused by 6, 7, or 4 for want of room alone. Assumes nothing.
+use Rattle.std.proofs.Common.{Some, None}
 use mathlib.Core.Path.{◌≡◌, refl, subst}
 use mathlib.Core.List.{List}
 use mathlib.Core.Bool.{true}
@@ -11,7 +12,7 @@ use Rattle.input.specs.SyntaxKind.{AS_KW, MUT_KW, L_PAREN, R_PAREN, AMP, DOT2, D
 use Rattle.input.specs.Input.{kind_at, present, width_of, is_kind}
 use Rattle.event.specs.declared.State.{State}
 use Rattle.parser.specs.Calls.{pushed}
-use Rattle.parser.specs.Prog.{Prog, give, complete, Perhaps, some, none}
+use Rattle.parser.specs.Prog.{Prog, give, complete, Perhaps, some}
 use Rattle.parser.specs.declared.Marker.{Marker}
 use Rattle.parser.specs.declared.CompletedMarker.{CompletedMarker}
 use Rattle.parser.proofs.Moves.{present_within}
@@ -29,7 +30,7 @@ use Rattle.facts.proofs.Postfix.{Read, Reads, postfixes}
 record Left (W : World) (ev : List ℕ) (s : State) (s1 : State) (a : Perhaps CompletedMarker) (e : List ℕ) : Type 0 where
   pub on : On W s.count ev s1 e
   pub ahead : s.pos.0 ≤ s1.pos.0
-  pub got : elim a as (λ _. Type 0) [ some m ↦ (s.pos.0 < s1.pos.0) × (s1.count + 11 * s.pos.0 + 2 ≤ s.count + 11 * s1.pos.0) × Shut s.count m s1 e | none ↦ (s.count + 1 ≤ s1.count) × (s1.count + 11 * s.pos.0 ≤ s.count + 11 * s1.pos.0 + 3) ]
+  pub got : elim a as (λ _. Type 0) [ Some m ↦ (s.pos.0 < s1.pos.0) × (s1.count + 11 * s.pos.0 + 2 ≤ s.count + 11 * s1.pos.0) × Shut s.count m s1 e | None ↦ (s.count + 1 ≤ s1.count) × (s1.count + 11 * s.pos.0 ≤ s.count + 11 * s1.pos.0 + 3) ]
 
 left_of_lem : {W : World} {ev : List ℕ} {s s1 : State} {m : CompletedMarker} {e : List ℕ} → Made W s.count ev s 1 2 0 s1 m e → Left W ev s s1 (some m) e
 left_of_lem k = record { on = k.on; ahead = omega (arith, k.ahead); got = (omega (arith, k.ahead), omega (arith, k.few), k.shut) }
@@ -54,8 +55,8 @@ module _ {W : World} {read : ℕ → Rule} (reads : Reads W read) where
         does_then (begins h L_PAREN (raw_kind L_PAREN (omega arith) (omega arith)) p (omega (arith, l))) (λ s1 o e k.
         does_look (does_bound _ _ (does_if _ _ _ (λ _. outside)
         (λ _. does_then (reads 1 (omega arith) s1 e (here k.on) (omega (arith, k.moves, k.some))) (λ s2. elim [
-          | some m ↦ λ e2 j. does_look (does_bound _ _ (does_if _ _ _ (λ _. outside) (λ _. ending k j)))
-          | none ↦ λ e2 j. ending k j
+          | Some m ↦ λ e2 j. does_look (does_bound _ _ (does_if _ _ _ (λ _. outside) (λ _. ending k j)))
+          | None ↦ λ e2 j. ending k j
         ])))))
       where
         ending : {s1 s2 : State} {o : Marker} {e e2 : List ℕ} {a : Perhaps CompletedMarker} → Begun W s.count ev s (width_of L_PAREN) 2 s1 o e → Read W e s1 s2 a e2 → Does W (closing R_PAREN EXPECTED_R_PAREN o PAREN_EXPR) (Made W s.count ev s 1 2 0) s2 e2
@@ -76,8 +77,8 @@ module _ {W : World} {read : ℕ → Rule} (reads : Reads W read) where
     unfolding atom_postfix given
     atom_postfixes =
         does_then atoms (λ s1. elim [
-          | some m ↦ λ e g. yield (postfixes reads r s1 m e (record { on = g.on; ahead = omega (arith, g.got.0); few = omega (arith, g.got.1); shut = g.got.2 }))
-          | none ↦ λ e g. does_give g
+          | Some m ↦ λ e g. yield (postfixes reads r s1 m e (record { on = g.on; ahead = omega (arith, g.got.0); few = omega (arith, g.got.1); shut = g.got.2 }))
+          | None ↦ λ e g. does_give g
         ])
 
     refs : present W.ts s.pos.0 AMP ≡ true → Does W (ref_expr W.ts read) (Made W s.count ev s 1 2 0) s ev
@@ -177,16 +178,16 @@ module _ {W : World} {ev e : List ℕ} {s0 : State} {o : Marker} (a : On W s0.co
     unfolding extended extend_to
     extends =
         does_then (lefts reads (here a) at (omega arith)) (λ s1. elim [
-          | some m ↦ λ e1 g. does_extend (here g.on) (still w g.on w.below) g.got.2 w.below (λ e2 c v. does_give (record { on = on_on (omega arith) (on_on (omega arith) a g.on) c; ahead = g.ahead; few = omega (arith, g.got.1); got = (g.got.0, omega (arith, g.got.1), v) }))
-          | none ↦ λ e1 g. gives_up g.on (omega (arith, g.got.0)) g.ahead (omega (arith, g.got.1))
+          | Some m ↦ λ e1 g. does_extend (here g.on) (still w g.on w.below) g.got.2 w.below (λ e2 c v. does_give (record { on = on_on (omega arith) (on_on (omega arith) a g.on) c; ahead = g.ahead; few = omega (arith, g.got.1); got = (g.got.0, omega (arith, g.got.1), v) }))
+          | None ↦ λ e1 g. gives_up g.on (omega (arith, g.got.0)) g.ahead (omega (arith, g.got.1))
         ])
 
     expressions : (b : ℕ) → 1 ≤ b → Does W (expression W.ts read b o) (Read W ev s0) (pushed s0 1) e
     unfolding expression given yields
     expressions b lo =
         does_then extends (λ s1. elim [
-          | some m ↦ λ e1 g. does_then (operates reads b lo r s1 m e1 (record { on = g.on; ahead = omega (arith, g.got.0); few = omega (arith, g.got.1); shut = g.got.2 })) (λ s2 m2 e2 k. does_give (record { on = k.on; ahead = omega (arith, k.ahead); few = omega (arith, k.few); got = (omega (arith, k.ahead), omega (arith, k.few), k.shut) }))
-          | none ↦ λ e1 g. does_give g
+          | Some m ↦ λ e1 g. does_then (operates reads b lo r s1 m e1 (record { on = g.on; ahead = omega (arith, g.got.0); few = omega (arith, g.got.1); shut = g.got.2 })) (λ s2 m2 e2 k. does_give (record { on = k.on; ahead = omega (arith, k.ahead); few = omega (arith, k.few); got = (omega (arith, k.ahead), omega (arith, k.few), k.shut) }))
+          | None ↦ λ e1 g. does_give g
         ])
 
 pub reading : (W : World) (d : ℕ) → Reads W (expr_bp d W.ts)

@@ -1,4 +1,5 @@
 -- The theorems of `specs/Facts`. A reading's from what every reading does, with a limit that no state reaches; the public reader's from how it ends. Assumes nothing.
+use Rattle.std.proofs.Common.{Result, Ok, Err}
 use mathlib.Core.Path.{◌≡◌, refl, sym, subst, ap, ◌∙◌}
 use mathlib.Core.List.{List, [], ◌∷◌, ◌++◌, map}
 use mathlib.Core.Bool.{Bool, true, false}
@@ -11,10 +12,8 @@ use borrow.Author.Tests.{ltb-false, le-ltb, ne_eqb}
 use Rattle.base.specs.Base.{whether}
 use Rattle.base.proofs.Cases.{whether_by}
 use Rattle.input.specs.SyntaxKind.{EVENTS_FULL, TOO_DEEP, OUTSIDE_CUT, TOKEN, LEAVE, FLOAT_SPLIT, FAULT, WIDTH_STEP, ENDS_IN_DOT}
-use Rattle.input.specs.Input.{Tokens, token_limit, tokens_of, on_checked}
+use Rattle.input.specs.Input.{Tokens, token_limit, tokens_of, on_checked, Checked}
 use Rattle.input.specs.declared.Refusal.{Refusal}
-use Rattle.input.specs.declared.Checked.{Checked}
-use Rattle.input.specs.declared.Checked.TheVariants as checked
 use Rattle.event.specs.Event.{event_limit, capacity_of}
 use Rattle.event.specs.declared.State.{State}
 use Rattle.parser.specs.declared.CompletedMarker.{CompletedMarker}
@@ -24,7 +23,6 @@ use Rattle.grammar.specs.Expressions.{expr_bp}
 use Rattle.grammar.proofs.Moves.{Takes, takes_a_token as takes_one}
 use Rattle.reader.specs.Reader.{Answer, on_read, top_of, parse_of}
 use Rattle.reader.specs.declared.Parsed.{Parsed}
-use Rattle.reader.specs.declared.Parsed.TheVariants as parsed
 use Rattle.demand.specs.Lists.{tally, gather}
 use Rattle.demand.specs.Runs.{Tok}
 use Rattle.demand.specs.Steps.{Step, code_of, parted, step_from, token_in}
@@ -71,29 +69,29 @@ pub at_most_four_more : AtMostFourMore
 at_most_four_more ts depth b s ev lo range s1 e q = omega (arith, (replied ts depth b lo s ev range (fine s1 none, e) q).few)
 
 -- The public reader: what an answer's first part says of the whole.
-answer_of_lem : (ts : Tokens) (ev st : List ℕ) (a : Answer) (x : Parsed) → Ends ts ev st a → a.0 ≡ x → Ends ts ev st (x, a.1, a.2)
-answer_of_lem ts ev st a x h q = subst (λ (y : Parsed). Ends ts ev st (y, a.1, a.2)) q h
+answer_of_lem : (ts : Tokens) (ev st : List ℕ) (a : Answer) (x : Result Parsed Refusal) → Ends ts ev st a → a.0 ≡ x → Ends ts ev st (x, a.1, a.2)
+answer_of_lem ts ev st a x h q = subst (λ (y : Result Parsed Refusal). Ends ts ev st (y, a.1, a.2)) q h
 
-same_refusal : {r q : Refusal} → parsed.Refused r ≡ parsed.Refused q → r ≡ q
+same_refusal : {r q : Refusal} → ◌≡◌ {A = Result Parsed Refusal} (Err r) (Err q) → r ≡ q
 same_refusal p = cc
 
-steps_or : {n m : ℕ} {r : Refusal} → parsed.Refused r ≡ parsed.Steps n m → ⊥
+steps_or : {got : Parsed} {r : Refusal} → ◌≡◌ {A = Result Parsed Refusal} (Err r) (Ok got) → ⊥
 steps_or p = let z : ◌≡◌ {A = ℕ} 0 1 = cc in omega arith
 
 -- where the checks refuse
-refused_at_once : (ts : Tokens) (ev st : List ℕ) (r : Refusal) → tokens_of ts ≡ checked.Refused r → (parse_of ts ev st).0 ≡ parsed.Refused r
+refused_at_once : (ts : Tokens) (ev st : List ℕ) (r : Refusal) → tokens_of ts ≡ Err r → (parse_of ts ev st).0 ≡ Err r
 unfolding parse_of on_checked
-refused_at_once ts ev st r q = ap (λ (c : Checked). (on_checked c (λ _. on_read st (top_of ts ev)) (λ r. (parsed.Refused r, ev, st))).0) q
+refused_at_once ts ev st r q = ap (λ (c : Checked). (on_checked c (λ _. on_read st (top_of ts ev)) (λ r. (Err r, ev, st))).0) q
 
-by_number : (ts : Tokens) (ev st : List ℕ) (r r1 : Refusal) → tokens_of ts ≡ checked.Refused r1 → (parse_of ts ev st).0 ≡ parsed.Refused r → (1 ≤ r.number) × (r.number ≤ 3)
+by_number : (ts : Tokens) (ev st : List ℕ) (r r1 : Refusal) → tokens_of ts ≡ Err r1 → (parse_of ts ev st).0 ≡ Err r → (1 ≤ r.number) × (r.number ≤ 3)
 by_number ts ev st r r1 c q = subst (λ (x : Refusal). (1 ≤ x.number) × (x.number ≤ 3)) (same_refusal (sym (refused_at_once ts ev st r1 c) ∙ q)) (subst By1_3 c (tokens_by ts))
 
-by_check : (ts : Tokens) {P : Type 0} → (tokens_of ts ≡ checked.Fine → P) → ((r : Refusal) → tokens_of ts ≡ checked.Refused r → P) → P
+by_check : (ts : Tokens) {P : Type 0} → (tokens_of ts ≡ Ok tt → P) → ((r : Refusal) → tokens_of ts ≡ Err r → P) → P
 by_check ts {P} f g = go (tokens_of ts) refl
   where
     go : (c : Checked) → tokens_of ts ≡ c → P
-    go checked.Fine q = f q
-    go (checked.Refused r) q = g r q
+    go (Ok _) q = f q
+    go (Err r) q = g r q
 
 right_number : (ts : Tokens) (ev st : List ℕ) (r : Refusal) → Right ts ev st r → (4 ≤ r.number) × (r.number ≤ 7)
 right_number ts ev st r (inl (inl a)) = (omega arith, omega arith)
@@ -104,7 +102,7 @@ right_number ts ev st r (inr a) = (omega (arith, a.0), omega (arith, a.0))
 pub refuses_by_1_to_7 : RefusesBy1To7
 refuses_by_1_to_7 ts ev st r q =
     by_check ts
-    (λ c. let n = right_number ts ev st r (answer_of_lem ts ev st (parse_of ts ev st) (parsed.Refused r) (reader_ends ts ev st c) q) in (omega (arith, n.0), omega (arith, n.1)))
+    (λ c. let n = right_number ts ev st r (answer_of_lem ts ev st (parse_of ts ev st) (Err r) (reader_ends ts ev st c) q) in (omega (arith, n.0), omega (arith, n.1)))
     (λ r1 c. let n = by_number ts ev st r r1 c q in (omega (arith, n.0), omega (arith, n.1)))
 
 -- The widths of steps, by number and as demand 3 counts them: for each way in which a number is read.
@@ -158,7 +156,7 @@ met_width : (ts : Tokens) (ev st : List ℕ) (c n : ℕ) (ev' st' : List ℕ) �
 met_width ts ev st c n ev' st' m = sym m.stands_at ∙ sym m.demand.widths ∙ ap (λ (l : List Tok). tally width_in l) (sym m.demand.tokens) ∙ steps_width (take n st') m.numbers
 
 -- room
-enough : (ts : Tokens) (ev : List ℕ) (room : ℕ) → tokens_of ts ≡ checked.Fine → room ≤ length ev → room ≤ 11 * length ts.kinds + 4 → room ≤ capacity_of ev
+enough : (ts : Tokens) (ev : List ℕ) (room : ℕ) → tokens_of ts ≡ Ok tt → room ≤ length ev → room ≤ 11 * length ts.kinds + 4 → room ≤ capacity_of ev
 unfolding capacity_of event_limit token_limit
 enough ts ev room q h l = whether_by (λ x. room ≤ x) (ltb (length ev) event_limit) _ _ (λ _. h) (λ _. omega (arith, tokens_few ts q))
 
@@ -171,7 +169,7 @@ right_with_room ts ev st r h k (inr a) = absurd (omega (arith, a.1))
 pub meets_demand_three : MeetsDemandThree
 meets_demand_three ts ev st c n q =
     by_check ts
-    (λ p. answer_of_lem ts ev st (parse_of ts ev st) (parsed.Steps c n) (reader_ends ts ev st p) q)
+    (λ p. answer_of_lem ts ev st (parse_of ts ev st) (Ok (record { consumed = c; steps = n })) (reader_ends ts ev st p) q)
     (λ r p. absurd (steps_or (sym (refused_at_once ts ev st r p) ∙ q)))
 
 pub consumed_is_width : ConsumedIsWidth
@@ -182,7 +180,7 @@ module _ (room : ℕ → ℕ) (l : (n : ℕ) → 11 * n + 4 ≤ room n) where
   only_6_or_7 : OnlyDepthOrCut room
   only_6_or_7 ts ev st p h k r q =
       let n : 11 * length ts.kinds + 4 ≤ room (length ts.kinds) = l (length ts.kinds) in
-      right_with_room ts ev st r (enough ts ev (11 * length ts.kinds + 4) p (omega arith) (omega arith)) (omega arith) (answer_of_lem ts ev st (parse_of ts ev st) (parsed.Refused r) (reader_ends ts ev st p) q)
+      right_with_room ts ev st r (enough ts ev (11 * length ts.kinds + 4) p (omega arith) (omega arith)) (omega arith) (answer_of_lem ts ev st (parse_of ts ev st) (Err r) (reader_ends ts ev st p) q)
 
   neither_4_nor_5 : RoomSuffices room
   neither_4_nor_5 ts ev st h k r q =

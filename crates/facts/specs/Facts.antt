@@ -1,19 +1,16 @@
 -- What is claimed of readings, of the public reader's answers, and of the room that it needs: over lists and numbers, for whatever is lent.
-use Rattle.std.specs.Prelude.{ℕ, ◌+◌, ◌-◌, ◌*◌, ◌/◌, ◌≤◌, ◌<◌, ◌≡◌, true, List, [], ◌∷◌, map, ◌⊎◌, length, get_or, take, ltb, eqb}
+use Rattle.std.specs.Prelude.{Ok, Err, ℕ, ◌+◌, ◌-◌, ◌*◌, ◌/◌, ◌≤◌, ◌<◌, ◌≡◌, true, List, [], ◌∷◌, map, ◌⊎◌, length, get_or, take, ltb, eqb}
 use Rattle.base.specs.Base.{whether}
 use Rattle.input.specs.SyntaxKind.{EVENTS_FULL, STEPS_FULL, TOO_DEEP, OUTSIDE_CUT, TOKEN, LEAVE, FLOAT_SPLIT, WIDTH_STEP, ENDS_IN_DOT}
 use Rattle.input.specs.Input.{Tokens, tokens_of}
 use Rattle.input.specs.declared.Refusal.{Refusal}
-use Rattle.input.specs.declared.Checked.TheVariants as checked
 use Rattle.event.specs.Event.{capacity_of, fresh}
 use Rattle.event.specs.declared.State.{State}
 use Rattle.parser.specs.declared.CompletedMarker.{CompletedMarker}
 use Rattle.parser.specs.Prog.{fine, bad, run, Perhaps, some, none}
 use Rattle.process.specs.Process.{process_of}
-use Rattle.process.specs.declared.Processed.TheVariants as processed
 use Rattle.grammar.specs.Expressions.{expr_bp}
 use Rattle.reader.specs.Reader.{top_of, parse_of}
-use Rattle.reader.specs.declared.Parsed.TheVariants as parsed
 use Rattle.demand.specs.Runs.{Call, run_of}
 use Rattle.demand.specs.Steps.{code_of, step_from}
 use Rattle.demand.specs.Demand.{Demand}
@@ -49,7 +46,7 @@ AtMostFourMore = (ts : Tokens) (depth b : ℕ) (s : State) (ev : List ℕ) → 1
 
 -- never 8, 9 or 0
 abbrev pub RefusesBy1To7 : Type 0
-RefusesBy1To7 = (ts : Tokens) (ev st : List ℕ) (r : Refusal) → (parse_of ts ev st).0 ≡ parsed.Refused r → (1 ≤ r.number) × (r.number ≤ 7)
+RefusesBy1To7 = (ts : Tokens) (ev st : List ℕ) (r : Refusal) → (parse_of ts ev st).0 ≡ Err r → (1 ≤ r.number) × (r.number ≤ 7)
 
 -- the raw tokens that a step stands for: "token 131,072 + 256 × raw width + kind", "float split 262,144, + 1 if it ends in a dot"
 unfoldable pub width_of_step : ℕ → ℕ
@@ -65,7 +62,7 @@ width_of_steps (x ∷ l) = width_of_step x + width_of_steps l
 
 -- "an invented consumed count (demand 2: it is the raw width of the token steps and splits)"
 abbrev pub ConsumedIsWidth : Type 0
-ConsumedIsWidth = (ts : Tokens) (ev st : List ℕ) (consumed n : ℕ) → (parse_of ts ev st).0 ≡ parsed.Steps consumed n → consumed ≡ width_of_steps (take n (parse_of ts ev st).2)
+ConsumedIsWidth = (ts : Tokens) (ev st : List ℕ) (consumed n : ℕ) → (parse_of ts ev st).0 ≡ Ok (record { consumed = consumed; steps = n }) → consumed ≡ width_of_steps (take n (parse_of ts ev st).2)
 
 -- What is behind an answer of so many tokens and steps, with the lists that it leaves, over lent lists ev and st: the reading ended as a run of machine calls does, at what was consumed; the steps are what the pass gives of the state and events at which that run stands; each number is that of a step, and the steps meet demand 3.
 pub record Met (ts : Tokens) (ev st : List ℕ) (consumed n : ℕ) (ev' st' : List ℕ) : Type 0 where
@@ -73,20 +70,20 @@ pub record Met (ts : Tokens) (ev st : List ℕ) (consumed n : ℕ) (ev' st' : Li
   pub reading : Perhaps CompletedMarker
   pub was_read : top_of ts ev ≡ (fine (run_of ts ev calls).state reading, (run_of ts ev calls).events)
   pub stands_at : (run_of ts ev calls).state.pos.0 ≡ consumed
-  pub passed : process_of (run_of ts ev calls).state (run_of ts ev calls).events st ≡ (processed.Steps n fresh, ev', st')
+  pub passed : process_of (run_of ts ev calls).state (run_of ts ev calls).events st ≡ (Ok (n, fresh), ev', st')
   pub numbers : take n st' ≡ map code_of (map step_from (take n st'))
   pub demand : Demand ts (run_of ts ev calls) (map step_from (take n st'))
 
 abbrev pub MeetsDemandThree : Type 0
-MeetsDemandThree = (ts : Tokens) (ev st : List ℕ) (consumed n : ℕ) → (parse_of ts ev st).0 ≡ parsed.Steps consumed n → Met ts ev st consumed n (parse_of ts ev st).1 (parse_of ts ev st).2
+MeetsDemandThree = (ts : Tokens) (ev st : List ℕ) (consumed n : ℕ) → (parse_of ts ev st).0 ≡ Ok (record { consumed = consumed; steps = n }) → Met ts ev st consumed n (parse_of ts ev st).1 (parse_of ts ev st).2
 
 -- room for so many events and as many steps, by the number of tokens, is never refused by 4 or 5
 abbrev pub RoomSuffices : (ℕ → ℕ) → Type 0
-RoomSuffices room = (ts : Tokens) (ev st : List ℕ) → room (length ts.kinds) ≤ length ev → room (length ts.kinds) ≤ length st → (r : Refusal) → (parse_of ts ev st).0 ≡ parsed.Refused r → (r.number ≡ EVENTS_FULL → ⊥) × (r.number ≡ STEPS_FULL → ⊥)
+RoomSuffices room = (ts : Tokens) (ev st : List ℕ) → room (length ts.kinds) ≤ length ev → room (length ts.kinds) ≤ length st → (r : Refusal) → (parse_of ts ev st).0 ≡ Err r → (r.number ≡ EVENTS_FULL → ⊥) × (r.number ≡ STEPS_FULL → ⊥)
 
 -- so what passes the checks is refused by 6 or 7 alone
 abbrev pub OnlyDepthOrCut : (ℕ → ℕ) → Type 0
-OnlyDepthOrCut room = (ts : Tokens) (ev st : List ℕ) → tokens_of ts ≡ checked.Fine → room (length ts.kinds) ≤ length ev → room (length ts.kinds) ≤ length st → (r : Refusal) → (parse_of ts ev st).0 ≡ parsed.Refused r → (r.number ≡ TOO_DEEP) ⊎ (r.number ≡ OUTSIDE_CUT)
+OnlyDepthOrCut room = (ts : Tokens) (ev st : List ℕ) → tokens_of ts ≡ Ok tt → room (length ts.kinds) ≤ length ev → room (length ts.kinds) ≤ length st → (r : Refusal) → (parse_of ts ev st).0 ≡ Err r → (r.number ≡ TOO_DEEP) ⊎ (r.number ≡ OUTSIDE_CUT)
 
 -- "Room of 16n + 16 events and as many steps is never refused by 4 or 5."
 abbrev pub room_of : ℕ → ℕ
@@ -98,4 +95,4 @@ least_of n = 11 * n + 4
 
 -- "Show me one operand", of the reader's own steps: of every enter of an answer the part that matches is shown, and nothing is refused
 abbrev pub EveryEnterIsShown : Type 0
-EveryEnterIsShown = (ts : Tokens) (ev st : List ℕ) (consumed n at : ℕ) → (parse_of ts ev st).0 ≡ parsed.Steps consumed n → is_enter (get_or (take n (parse_of ts ev st).2) at 0) ≡ true → Shown (take n (parse_of ts ev st).2) at
+EveryEnterIsShown = (ts : Tokens) (ev st : List ℕ) (consumed n at : ℕ) → (parse_of ts ev st).0 ≡ Ok (record { consumed = consumed; steps = n }) → is_enter (get_or (take n (parse_of ts ev st).2) at 0) ≡ true → Shown (take n (parse_of ts ev st).2) at

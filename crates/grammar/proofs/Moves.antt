@@ -1,5 +1,6 @@
 -- What the rules take: each rule that makes a node takes a token before it ends, so a reading that yields an expression takes at least one, and the turns of each loop leave fewer tokens (or, after a float that ends in a dot, the same with the dot read).
 -- By the machine's own moves (a taking call goes on within the list, any other stays) and one step a rule. Assumes nothing.
+use Rattle.std.proofs.Common.{Result, Ok}
 use mathlib.Core.Path.{◌≡◌, refl, sym, ap, subst, ◌∙◌}
 use mathlib.Core.Bool.{Bool, true, false, false≢true}
 use mathlib.Core.List.{List}
@@ -11,8 +12,9 @@ use borrow.Author.Tests.{eqb-true}
 use Rattle.base.specs.Base.{whether, bound, Next, again, done}
 use Rattle.base.proofs.Cases.{whether_by, bound_by}
 use Rattle.input.specs.SyntaxKind.{COMMA, DOT, AMP, L_PAREN, L_BRACK, QUESTION, AWAIT_KW, DOT2, DOT2EQ, LITERAL, PATH_EXPR}
-use Rattle.input.specs.Input.{Tokens, lent, kind_at}
+use Rattle.input.specs.Input.{Tokens, kind_at}
 use Rattle.input.proofs.Laws.{kind_inside}
+use Rattle.input.specs.declared.Refusal.{Refusal}
 use Rattle.event.specs.declared.State.{State}
 use Rattle.parser.specs.declared.Marker.{Marker}
 use Rattle.parser.specs.declared.CompletedMarker.{CompletedMarker}
@@ -290,21 +292,18 @@ module _ (ts : Tokens) (s : State) where
     postfix_goes false = form_goes false refl
 
 -- for the measures of the loops
-module _ (ks js : List ℕ) (s s1 : State) (ev e : List ℕ) where
-  abbrev ts : Tokens
-  ts = lent ks js
-
-  fell : Past ts s.pos.0 s1 → length ks - s1.pos.0 < length ks - s.pos.0
+module _ (ts : Tokens) (s s1 : State) (ev e : List ℕ) where
+  fell : Past ts s.pos.0 s1 → length ts.kinds - s1.pos.0 < length ts.kinds - s.pos.0
   fell h = omega arith
 
-  pub operator_less : (read : ℕ → Rule) (b : ℕ) (m : CompletedMarker) {m1 : CompletedMarker} (x : Turn) → (turn_reply x, e) ≡ run ts (operator_turn ts read b m) s ev → x ≡ turn.Again s1 m1 → length ks - s1.pos.0 < length ks - s.pos.0
+  pub operator_less : (read : ℕ → Rule) (b : ℕ) (m : CompletedMarker) {m1 : CompletedMarker} (x : Result Turn Refusal) → (turn_reply x, e) ≡ run ts (operator_turn ts read b m) s ev → x ≡ Ok (turn.Again s1 m1) → length ts.kinds - s1.pos.0 < length ts.kinds - s.pos.0
   unfolding turn_reply
-  operator_less read b m x p q = fell (subst (λ (r : Ran (Next CompletedMarker CompletedMarker)). Turns ts s.pos.0 r) (sym p ∙ ap (λ (y : Turn). (turn_reply y, e)) q) (operator_goes ts read b m s ev))
+  operator_less read b m x p q = fell (subst (λ (r : Ran (Next CompletedMarker CompletedMarker)). Turns ts s.pos.0 r) (sym p ∙ ap (λ (y : Result Turn Refusal). (turn_reply y, e)) q) (operator_goes ts read b m s ev))
 
-  pub argument_less : (depth : ℕ) (x : Args) → (args_reply x, e) ≡ run ts (argument ts (expr_bp depth ts)) s ev → x ≡ args.More s1 → length ks - s1.pos.0 < length ks - s.pos.0
+  pub argument_less : (depth : ℕ) (x : Result Args Refusal) → (args_reply x, e) ≡ run ts (argument ts (expr_bp depth ts)) s ev → x ≡ Ok (args.More s1) → length ts.kinds - s1.pos.0 < length ts.kinds - s.pos.0
   unfolding args_reply
-  argument_less depth x p q = fell (subst (λ (r : Ran (Next (Unit {0}) (Unit {0}))). Turns ts s.pos.0 r) (sym p ∙ ap (λ (y : Args). (args_reply y, e)) q) (argument_goes ts depth s ev))
+  argument_less depth x p q = fell (subst (λ (r : Ran (Next (Unit {0}) (Unit {0}))). Turns ts s.pos.0 r) (sym p ∙ ap (λ (y : Result Args Refusal). (args_reply y, e)) q) (argument_goes ts depth s ev))
 
-  pub postfix_less : (read : ℕ → Rule) (m : CompletedMarker) (recovery : Bool) {m1 : CompletedMarker} {next : Bool} (x : Postfix) → (postfix_reply x, e) ≡ run ts (postfix_turn ts read (m, recovery)) s ev → x ≡ postfix.Again s1 m1 next → 2 * (length ks - s1.pos.0) + flag_of next < 2 * (length ks - s.pos.0) + flag_of recovery
+  pub postfix_less : (read : ℕ → Rule) (m : CompletedMarker) (recovery : Bool) {m1 : CompletedMarker} {next : Bool} (x : Result Postfix Refusal) → (postfix_reply x, e) ≡ run ts (postfix_turn ts read (m, recovery)) s ev → x ≡ Ok (postfix.Again s1 m1 next) → 2 * (length ts.kinds - s1.pos.0) + flag_of next < 2 * (length ts.kinds - s.pos.0) + flag_of recovery
   unfolding postfix_reply
-  postfix_less read m recovery x p q = subst (λ (r : Ran (Next (CompletedMarker × Bool) CompletedMarker)). Fewers ts (left ts s recovery) r) (sym p ∙ ap (λ (y : Postfix). (postfix_reply y, e)) q) (postfix_goes ts s read m ev recovery)
+  postfix_less read m recovery x p q = subst (λ (r : Ran (Next (CompletedMarker × Bool) CompletedMarker)). Fewers ts (left ts s recovery) r) (sym p ∙ ap (λ (y : Result Postfix Refusal). (postfix_reply y, e)) q) (postfix_goes ts s read m ev recovery)

@@ -4,29 +4,18 @@
 pub mod expressions;
 
 use event::State;
-use input::Refusal;
 use parser::CompletedMarker;
 
-// What a reading answers.
-#[derive(Clone, Copy)]
-pub enum Reading {
-    Expr(State, CompletedMarker),
-    NoExpr(State),
-    Refused(Refusal),
-}
-
 // What a turn over postfix forms answers; the flag is the crate's FLOAT_RECOVERY for the next turn.
-#[derive(Clone, Copy)]
+#[derive(Clone, Copy, Debug, PartialEq, Eq)]
 pub enum Postfix {
     Again(State, CompletedMarker, bool),
     Done(State, CompletedMarker),
-    Refused(Refusal),
 }
 
 // What a turn over arguments answers.
-#[derive(Clone, Copy)]
+#[derive(Clone, Copy, Debug, PartialEq, Eq)]
 pub enum Args {
     More(State),
     End(State),
-    Refused(Refusal),
 }

@@ -1,5 +1,6 @@
 -- What callers use of the tokens lent: a range test as bounds, a kind that stands as a position inside, and "its parts follow one another, all but the last joint" for any list of parts.
 -- By induction on the parts. Assumes nothing.
+use Rattle.std.proofs.Common.{Ok, Err}
 use mathlib.Core.Path.{◌≡◌, refl, sym, ap, subst, ◌∙◌}
 use mathlib.Core.Bool.{Bool, true, false}
 use mathlib.Core.List.{List, [], ◌∷◌}
@@ -13,10 +14,9 @@ use Rattle.base.specs.Base.{whether, bound}
 use Rattle.input.specs.SyntaxKind.{EOF, IDENT, QUESTION, MINUSEQ, SHREQ}
 use Rattle.input.specs.Input.{Tokens, kind_at, joint_at, stands, within, is_raw, is_glued, is_joint, follow, row_of, row_parts, parts_of, width_of, width_limit, present, ahead, on_checked}
 use Rattle.input.specs.declared.Refusal.{Refusal}
-use Rattle.input.specs.declared.Checked.{Checked}
-use Rattle.input.specs.declared.Checked.TheVariants.{Fine, Refused}
+use Rattle.input.specs.Input.{Checked}
 use Rattle.input.specs.declared.Glued.{Glued}
-use Rattle.base.proofs.Laws.{whether_yes, whether_no, whether_lt, whether_ge}
+use Rattle.base.proofs.Laws.{whether_yes, whether_no}
 use Rattle.base.proofs.Cases.{whether_by}
 
 -- both of two tests
@@ -195,14 +195,6 @@ present_inside ts at kind h =
     omega (arith, ((present_says ts at kind h).stand (length (parts_of kind) - 1) (omega arith)).inside)
 
 -- "the (up to three) tokens from the position on": all that are left where fewer are left
-pub ahead_few : (ts : Tokens) (at : ℕ) → length ts.kinds - at < width_limit → ahead ts at ≡ length ts.kinds - at
-unfolding ahead bound
-ahead_few ts at h = sym (whether_lt _ _ _ _ h refl)
-
-pub ahead_more : (ts : Tokens) (at : ℕ) → width_limit ≤ length ts.kinds - at → ahead ts at ≡ width_limit
-unfolding ahead bound
-ahead_more ts at h = sym (whether_ge _ _ _ _ h refl)
-
 pub ahead_left : (ts : Tokens) (at : ℕ) → ahead ts at ≤ length ts.kinds - at
 unfolding ahead bound
 ahead_left ts at =
@@ -210,18 +202,18 @@ ahead_left ts at =
 
 -- what follows a check, from its answer
 module _ {A : Type 0} (fine : Unit {0} → A) (refused : Refusal → A) {out : A} {r c : Checked} where
-  pub on_fine : r ≡ c → r ≡ Fine → out ≡ fine tt → out ≡ on_checked c fine refused
+  pub on_fine : r ≡ c → r ≡ Ok tt → out ≡ fine tt → out ≡ on_checked c fine refused
   unfolding on_checked
   on_fine p q h = h ∙ ap (λ z. on_checked z fine refused) (sym q ∙ p)
 
-  pub on_refused : {x : Refusal} → r ≡ c → r ≡ Refused x → out ≡ refused x → out ≡ on_checked c fine refused
+  pub on_refused : {x : Refusal} → r ≡ c → r ≡ Err x → out ≡ refused x → out ≡ on_checked c fine refused
   unfolding on_checked
   on_refused p q h = h ∙ ap (λ z. on_checked z fine refused) (sym q ∙ p)
 
 pub ruleset checks = (on_fine, on_refused)
 
 -- P holds after a check where it holds after each answer
-pub checked_by : {A : Type 0} (P : A → Type 0) (c : Checked) (fine : Unit {0} → A) (refused : Refusal → A) → (c ≡ Fine → P (fine tt)) → ((x : Refusal) → c ≡ Refused x → P (refused x)) → P (on_checked c fine refused)
+pub checked_by : {A : Type 0} (P : A → Type 0) (c : Checked) (fine : Unit {0} → A) (refused : Refusal → A) → (c ≡ Ok tt → P (fine tt)) → ((x : Refusal) → c ≡ Err x → P (refused x)) → P (on_checked c fine refused)
 unfolding on_checked
-checked_by P Fine fine refused f g = f refl
-checked_by P (Refused x) fine refused f g = g x refl
+checked_by P (Ok _) fine refused f g = f refl
+checked_by P (Err x) fine refused f g = g x refl

@@ -1,11 +1,11 @@
 -- Tokens lent, the glued tokens, and the checks of a token list.
+use Rattle.std.specs.Prelude.{Result, Ok, Err}
 use Rattle.std.specs.Prelude.{ℕ, zero, suc, ◌+◌, ◌-◌, Bool, true, false, List, [], ◌∷◌, length, get_or, ltb, leb, eqb}
 use Rattle.base.specs.Base.{whether, bound}
 use Rattle.input.specs.SyntaxKind.{EOF, IDENT, QUESTION, COLON, DOT, AMP, PIPE, PLUS, MINUS, STAR, SLASH, PERCENT, CARET, BANG, EQ, L_ANGLE, R_ANGLE, MINUSEQ, THIN_ARROW, COLON2, NEQ, DOT2, STAREQ, SLASHEQ, AMP2, AMPEQ, PERCENTEQ, CARETEQ, PLUSEQ, SHL, LTEQ, EQ2, FAT_ARROW, GTEQ, SHR, PIPEEQ, PIPE2, DOT3, DOT2EQ, SHLEQ, SHREQ, ERROR, PATH_TYPE, EXPECTED_EXPRESSION, EXPECTED_COMMA, BAD_KIND, BAD_JOINT, BAD_LENGTH}
+pub use Rattle.input.specs.Lent.{Tokens}
 use Rattle.input.specs.declared.Glued.{Glued}
 use Rattle.input.specs.declared.Refusal.{Refusal}
-use Rattle.input.specs.declared.Checked.{Checked}
-use Rattle.input.specs.declared.Checked.TheVariants.{Fine, Refused}
 
 -- "The limits 4,096, 128 and 3 are each named once, beside the kind of number they limit."
 unfoldable pub token_limit : ℕ
@@ -16,11 +16,6 @@ depth_limit = 128
 
 unfoldable pub width_limit : ℕ
 width_limit = 3
-
--- "Input: two byte lists of equal length n, at most 4,096: kinds, and joint bytes 0 or 1."
-pub record Tokens : Type 0 where
-  pub kinds : List ℕ
-  pub joints : List ℕ
 
 abbrev pub lent : List ℕ → List ℕ → Tokens
 lent ks js = record { kinds = ks; joints = js }
@@ -138,28 +133,32 @@ first_off fine l at (suc k) = whether (fine (get_or l at 0)) (λ _. first_off fi
 abbrev pub refusal : ℕ → ℕ → Refusal
 refusal number place = record { number = number; place = place }
 
+-- what a check of tokens says
+abbrev pub Checked : Type 0
+Checked = Result (Unit {0}) Refusal
+
 -- 3: "lists of unequal length, or n above 4,096", place 0
 unfoldable pub lengths_of : Tokens → Checked
 lengths_of ts =
     whether (eqb (length ts.kinds) (length ts.joints))
-    (λ _. whether (leb (length ts.kinds) token_limit) (λ _. Fine) (λ _. Refused (refusal BAD_LENGTH 0)))
-    (λ _. Refused (refusal BAD_LENGTH 0))
+    (λ _. whether (leb (length ts.kinds) token_limit) (λ _. Ok tt) (λ _. Err (refusal BAD_LENGTH 0)))
+    (λ _. Err (refusal BAD_LENGTH 0))
 
 -- 1, then 2, each at its "first such index", looking at k tokens from a position on
 unfoldable pub bytes_of : Tokens → ℕ → ℕ → Checked
 bytes_of ts at k =
     bound (first_off is_raw ts.kinds at k) λ i.
-    whether (ltb i (at + k)) (λ _. Refused (refusal BAD_KIND i)) λ _.
+    whether (ltb i (at + k)) (λ _. Err (refusal BAD_KIND i)) λ _.
     bound (first_off is_joint ts.joints at k) λ j.
-    whether (ltb j (at + k)) (λ _. Refused (refusal BAD_JOINT j)) (λ _. Fine)
+    whether (ltb j (at + k)) (λ _. Err (refusal BAD_JOINT j)) (λ _. Ok tt)
 
 unfoldable pub on_checked : {A : Type 0} → Checked → (Unit {0} → A) → (Refusal → A) → A
-on_checked Fine fine refused = fine tt
-on_checked (Refused r) fine refused = refused r
+on_checked (Ok _) fine refused = fine tt
+on_checked (Err r) fine refused = refused r
 
 -- the checks of a whole list, in the order 3, 1, 2
 unfoldable pub tokens_of : Tokens → Checked
-tokens_of ts = on_checked (lengths_of ts) (λ _. bytes_of ts 0 (length ts.kinds)) Refused
+tokens_of ts = on_checked (lengths_of ts) (λ _. bytes_of ts 0 (length ts.kinds)) Err
 
 -- "looking only at the (up to three) tokens from the position on"
 unfoldable pub ahead : Tokens → ℕ → ℕ

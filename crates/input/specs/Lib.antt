@@ -1,2 +1,3 @@
 pub mod SyntaxKind
+pub mod Lent
 pub mod Input

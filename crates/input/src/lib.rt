@@ -3,14 +3,16 @@
 
 pub mod syntax_kind;
 
-ghost use Rattle.std.specs.Prelude.{◌≡◌, ℕ, ◌+◌, ◌-◌, ◌≤◌, length, get_or};
+ghost use Rattle.std.specs.Prelude.{◌≡◌, ℕ, true, ◌+◌, ◌-◌, ◌^◌, ◌<◌, ◌≤◌, length, get_or};
 ghost use Rattle.input.specs.SyntaxKind.{EOF, MINUSEQ, SHREQ};
 ghost use Rattle.input.specs.Input.{lent, stands, within, is_raw, is_glued, is_kind, is_node, is_code, row_of, row_parts, stands_joint, follow, present, width_of, width_limit, first_off, refusal, lengths_of, bytes_of, tokens_of, ahead};
 
+use std::marker::Model;
 use syntax_kind::*;
 
-// A raw position in a token list.
-#[derive(Clone, Copy)]
+// A raw position in a token list. Position, Depth and Width are three types with a constructor each, and no one generic type: each limit is
+// named beside the kind of number that it limits.
+#[derive(Clone, Copy, Debug, PartialEq, Eq)]
 pub struct Position(pub usize);
 
 impl Position {
@@ -25,7 +27,7 @@ impl Position {
 }
 
 // How many readings of an expression may still be opened.
-#[derive(Clone, Copy)]
+#[derive(Clone, Copy, Debug, PartialEq, Eq)]
 pub struct Depth(pub usize);
 
 impl Depth {
@@ -39,7 +41,7 @@ impl Depth {
 }
 
 // How many raw tokens a token is made of.
-#[derive(Clone, Copy)]
+#[derive(Clone, Copy, Debug, PartialEq, Eq)]
 pub struct Width(pub u8);
 
 impl Width {
@@ -52,8 +54,9 @@ impl Width {
     }
 }
 
-// A row of the table of glued tokens; the third part of a row of width 2 is EOF.
-#[derive(Clone, Copy)]
+// A row of the table of glued tokens; the third part of a row of width 2 is EOF, and no Option: a row of kind, width and raw parts is the
+// form that the project names for this table.
+#[derive(Clone, Copy, Debug, PartialEq, Eq)]
 pub struct Glued {
     pub kind: u8,
     pub width: Width,
@@ -62,229 +65,76 @@ pub struct Glued {
     pub third: u8,
 }
 
-// A number of the table of refusals, and its place.
-#[derive(Clone, Copy)]
+// A number of the table of refusals, and its place. The number is a byte and no enum, since `answers::put_refusal` and the calls
+// above it promise the text of every number.
+#[derive(Clone, Copy, Debug, PartialEq, Eq)]
 pub struct Refusal {
     pub number: u8,
     pub place: usize,
 }
 
-// What a check of tokens says.
-#[derive(Clone, Copy)]
-pub enum Checked {
-    Fine,
-    Refused(Refusal),
+impl Refusal {
+    pub fn new(number: u8, place: usize) -> Refusal
+        ensures { result ≡ refusal number place }
+    {
+        Refusal { number, place }
+    }
+}
+
+// A row of two parts, and of three.
+macro_rules! row {
+    ($kind:ident: $first:ident $second:ident) => {
+        Glued {
+            kind: $kind,
+            width: Width(2),
+            first: $first,
+            second: $second,
+            third: EOF,
+        }
+    };
+    ($kind:ident: $first:ident $second:ident $third:ident) => {
+        Glued {
+            kind: $kind,
+            width: Width(3),
+            first: $first,
+            second: $second,
+            third: $third,
+        }
+    };
 }
 
 // "40 to 63 in order `-=` `->` `::` `!=` `..` `*=` `/=` `&&` `&=` `%=` `^=` `+=` `<<` `<=` `==` `=>` `>=` `>>` `|=` `||` `...` `..=` `<<=` `>>=`."
 const GLUED: [Glued; 24] = [
-    Glued {
-        kind: MINUSEQ,
-        width: Width(2),
-        first: MINUS,
-        second: EQ,
-        third: EOF,
-    },
-    Glued {
-        kind: THIN_ARROW,
-        width: Width(2),
-        first: MINUS,
-        second: R_ANGLE,
-        third: EOF,
-    },
-    Glued {
-        kind: COLON2,
-        width: Width(2),
-        first: COLON,
-        second: COLON,
-        third: EOF,
-    },
-    Glued {
-        kind: NEQ,
-        width: Width(2),
-        first: BANG,
-        second: EQ,
-        third: EOF,
-    },
-    Glued {
-        kind: DOT2,
-        width: Width(2),
-        first: DOT,
-        second: DOT,
-        third: EOF,
-    },
-    Glued {
-        kind: STAREQ,
-        width: Width(2),
-        first: STAR,
-        second: EQ,
-        third: EOF,
-    },
-    Glued {
-        kind: SLASHEQ,
-        width: Width(2),
-        first: SLASH,
-        second: EQ,
-        third: EOF,
-    },
-    Glued {
-        kind: AMP2,
-        width: Width(2),
-        first: AMP,
-        second: AMP,
-        third: EOF,
-    },
-    Glued {
-        kind: AMPEQ,
-        width: Width(2),
-        first: AMP,
-        second: EQ,
-        third: EOF,
-    },
-    Glued {
-        kind: PERCENTEQ,
-        width: Width(2),
-        first: PERCENT,
-        second: EQ,
-        third: EOF,
-    },
-    Glued {
-        kind: CARETEQ,
-        width: Width(2),
-        first: CARET,
-        second: EQ,
-        third: EOF,
-    },
-    Glued {
-        kind: PLUSEQ,
-        width: Width(2),
-        first: PLUS,
-        second: EQ,
-        third: EOF,
-    },
-    Glued {
-        kind: SHL,
-        width: Width(2),
-        first: L_ANGLE,
-        second: L_ANGLE,
-        third: EOF,
-    },
-    Glued {
-        kind: LTEQ,
-        width: Width(2),
-        first: L_ANGLE,
-        second: EQ,
-        third: EOF,
-    },
-    Glued {
-        kind: EQ2,
-        width: Width(2),
-        first: EQ,
-        second: EQ,
-        third: EOF,
-    },
-    Glued {
-        kind: FAT_ARROW,
-        width: Width(2),
-        first: EQ,
-        second: R_ANGLE,
-        third: EOF,
-    },
-    Glued {
-        kind: GTEQ,
-        width: Width(2),
-        first: R_ANGLE,
-        second: EQ,
-        third: EOF,
-    },
-    Glued {
-        kind: SHR,
-        width: Width(2),
-        first: R_ANGLE,
-        second: R_ANGLE,
-        third: EOF,
-    },
-    Glued {
-        kind: PIPEEQ,
-        width: Width(2),
-        first: PIPE,
-        second: EQ,
-        third: EOF,
-    },
-    Glued {
-        kind: PIPE2,
-        width: Width(2),
-        first: PIPE,
-        second: PIPE,
-        third: EOF,
-    },
-    Glued {
-        kind: DOT3,
-        width: Width(3),
-        first: DOT,
-        second: DOT,
-        third: DOT,
-    },
-    Glued {
-        kind: DOT2EQ,
-        width: Width(3),
-        first: DOT,
-        second: DOT,
-        third: EQ,
-    },
-    Glued {
-        kind: SHLEQ,
-        width: Width(3),
-        first: L_ANGLE,
-        second: L_ANGLE,
-        third: EQ,
-    },
-    Glued {
-        kind: SHREQ,
-        width: Width(3),
-        first: R_ANGLE,
-        second: R_ANGLE,
-        third: EQ,
-    },
+    row!(MINUSEQ: MINUS EQ),
+    row!(THIN_ARROW: MINUS R_ANGLE),
+    row!(COLON2: COLON COLON),
+    row!(NEQ: BANG EQ),
+    row!(DOT2: DOT DOT),
+    row!(STAREQ: STAR EQ),
+    row!(SLASHEQ: SLASH EQ),
+    row!(AMP2: AMP AMP),
+    row!(AMPEQ: AMP EQ),
+    row!(PERCENTEQ: PERCENT EQ),
+    row!(CARETEQ: CARET EQ),
+    row!(PLUSEQ: PLUS EQ),
+    row!(SHL: L_ANGLE L_ANGLE),
+    row!(LTEQ: L_ANGLE EQ),
+    row!(EQ2: EQ EQ),
+    row!(FAT_ARROW: EQ R_ANGLE),
+    row!(GTEQ: R_ANGLE EQ),
+    row!(SHR: R_ANGLE R_ANGLE),
+    row!(PIPEEQ: PIPE EQ),
+    row!(PIPE2: PIPE PIPE),
+    row!(DOT3: DOT DOT DOT),
+    row!(DOT2EQ: DOT DOT EQ),
+    row!(SHLEQ: L_ANGLE L_ANGLE EQ),
+    row!(SHREQ: R_ANGLE R_ANGLE EQ),
 ];
-
-// The byte at a position of a list, 0 past its end.
-fn byte_at(list: &[u8], at: usize) -> u8
-    ensures { result ≡ get_or list.now at 0 }
-{
-    if at < list.len() { list[at] } else { 0 }
-}
-
-// "Past the end the kind is 0 (EOF)."
-pub fn kind_at(kinds: &[u8], at: usize) -> u8
-    ensures { result ≡ get_or kinds.now at EOF }
-{
-    byte_at(kinds, at)
-}
-
-pub fn joint_at(joints: &[u8], at: usize) -> u8
-    ensures { result ≡ get_or joints.now at 0 }
-{
-    byte_at(joints, at)
-}
-
-// Whether a raw kind stands at a position of the list.
-pub fn stands(kinds: &[u8], joints: &[u8], at: usize, kind: u8) -> bool
-    ensures { result ≡ stands (lent kinds.now joints.now) at kind }
-{
-    if at < kinds.len() {
-        return kinds[at] == kind;
-    }
-    false
-}
 
 fn within(low: u8, high: u8, byte: u8) -> bool
     ensures { result ≡ within low high byte }
 {
-    if low <= byte {
-        return byte <= high;
-    }
-    false
+    low <= byte && byte <= high
 }
 
 pub fn is_raw(kind: u8) -> bool
@@ -303,10 +153,7 @@ pub fn is_glued(kind: u8) -> bool
 pub fn is_kind(kind: u8) -> bool
     ensures { result ≡ is_kind kind }
 {
-    if is_raw(kind) {
-        return true;
-    }
-    is_glued(kind)
+    is_raw(kind) || is_glued(kind)
 }
 
 pub fn is_node(node: u8) -> bool
@@ -326,44 +173,7 @@ fn row_of(kind: u8) -> Glued
     requires { (MINUSEQ ≤ kind) × (kind ≤ SHREQ) }
     ensures { result ≡ row_of kind }
 {
-    let i = (kind - MINUSEQ) as usize;
-    GLUED[i]
-}
-
-// A raw kind that stands at a position, and that the next token touches.
-fn stands_joint(kinds: &[u8], joints: &[u8], at: usize, kind: u8) -> bool
-    ensures { result ≡ stands_joint (lent kinds.now joints.now) at kind }
-{
-    if stands(kinds, joints, at, kind) {
-        return joint_at(joints, at) == 1;
-    }
-    false
-}
-
-// "A glued token is present when its parts follow one another, all but the last joint."
-fn parts_at(kinds: &[u8], joints: &[u8], at: usize, row: Glued) -> bool
-    ensures { result ≡ follow (lent kinds.now joints.now) at (row_parts row) }
-{
-    if stands_joint(kinds, joints, at, row.first) {
-        let width = row.width;
-        if width.0 == 2 {
-            return stands(kinds, joints, at + 1, row.second);
-        }
-        if stands_joint(kinds, joints, at + 1, row.second) {
-            return stands(kinds, joints, at + 2, row.third);
-        }
-    }
-    false
-}
-
-// Whether a kind, raw or glued, is present at a position.
-pub fn nth_at(kinds: &[u8], joints: &[u8], at: usize, kind: u8) -> bool
-    ensures { result ≡ present (lent kinds.now joints.now) at kind }
-{
-    if is_glued(kind) {
-        return parts_at(kinds, joints, at, row_of(kind));
-    }
-    stands(kinds, joints, at, kind)
+    GLUED[usize::from(kind - MINUSEQ)]
 }
 
 // How many raw tokens a kind is made of.
@@ -372,81 +182,158 @@ pub fn width_of(kind: u8) -> u8
     ensures lower_bound { (1 ≤ result) × (result ≤ width_limit) }
 {
     if is_glued(kind) {
-        let width = row_of(kind).width;
-        return width.0;
+        row_of(kind).width.0
+    } else {
+        1
     }
-    1
 }
 
-// 3: "lists of unequal length, or n above 4,096"
-pub fn lengths(kinds: &[u8], joints: &[u8]) -> Checked
-    ensures { result ≡ lengths_of (lent kinds.now joints.now) }
+// The byte at a position of a list, 0 past its end.
+fn byte_at(list: &[u8], at: usize) -> u8
+    ensures { result ≡ get_or list.now at 0 }
 {
-    if kinds.len() != joints.len() {
-        return refused(BAD_LENGTH, 0);
-    }
-    if Position::LIMIT < kinds.len() {
-        return refused(BAD_LENGTH, 0);
-    }
-    Checked::Fine
-}
-
-fn refused(number: u8, place: usize) -> Checked
-    ensures { result ≡ Checked.Refused (refusal number place) }
-{
-    Checked::Refused(Refusal { number, place })
+    list.get(at).copied().unwrap_or(0)
 }
 
 // The "first such index": the first byte from a position on that is not low..high; the end where there is none.
 fn first_outside(list: &[u8], low: u8, high: u8, at: usize, end: usize) -> usize
+    requires { at ≤ end }
     ensures { result ≡ first_off (within low high) list.now at (end - at) }
 {
-    let mut i = at;
-    while i < end {
+    for i in at..end {
         if !within(low, high, byte_at(list, i)) {
             return i;
         }
-        i += 1;
     }
-    i
+    end
 }
 
-// 1, then 2, for the tokens from a position to an end.
-fn check_bytes(kinds: &[u8], joints: &[u8], at: usize, end: usize) -> Checked
-    requires { at ≤ end }
-    ensures { result ≡ bytes_of (lent kinds.now joints.now) at (end - at) }
-{
-    let kind = first_outside(kinds, IDENT, QUESTION, at, end);
-    if kind < end {
-        return refused(BAD_KIND, kind);
-    }
-    let joint = first_outside(joints, 0, 1, at, end);
-    if joint < end {
-        return refused(BAD_JOINT, joint);
-    }
-    Checked::Fine
+// The tokens lent: a list of raw kinds, and a list of bytes that say which tokens touch the next.
+#[derive(Drop)]
+pub struct Tokens<'a> {
+    kinds: &'a [u8],
+    joints: &'a [u8],
 }
 
-// The checks of a whole list, in the order 3, 1, 2.
-pub fn check_tokens(kinds: &[u8], joints: &[u8]) -> Checked
-    ensures { result ≡ tokens_of (lent kinds.now joints.now) }
-{
-    let checked = lengths(kinds, joints);
-    match checked {
-        Checked::Refused(r) => Checked::Refused(r),
-        Checked::Fine => check_bytes(kinds, joints, 0, kinds.len()),
-    }
+impl<'a> Model for Tokens<'a> {
+    ghost use Rattle.input.specs.Lent.{Tokens};
+
+    ghost Value = { Tokens };
+
+    ghost view = { λ ts. record { kinds = ts.kinds.now; joints = ts.joints.now } };
 }
 
-// 1, then 2, "looking only at the (up to three) tokens from the position on".
-pub fn check_ahead(kinds: &[u8], joints: &[u8], at: usize) -> Checked
-    ensures { result ≡ bytes_of (lent kinds.now joints.now) at (ahead (lent kinds.now joints.now) at) }
-{
-    if kinds.len() <= at {
-        return Checked::Fine;
+impl<'a> Tokens<'a> {
+    pub fn new(kinds: &'a [u8], joints: &'a [u8]) -> Tokens<'a>
+        ensures { result ≡ lent kinds.now joints.now }
+    {
+        Tokens { kinds, joints }
     }
-    if kinds.len() - at < Width::LIMIT as usize {
-        return check_bytes(kinds, joints, at, kinds.len());
+
+    // How many there are.
+    pub fn len(&self) -> usize
+        ensures value { result ≡ length self.now.kinds }
+        ensures upper_bound { result < 2 ^ 63 }
+    {
+        self.kinds.len()
     }
-    check_bytes(kinds, joints, at, at + Width::LIMIT as usize)
+
+    // "Past the end the kind is 0 (EOF)."
+    pub fn kind_at(&self, at: usize) -> u8
+        ensures { result ≡ get_or self.now.kinds at EOF }
+    {
+        byte_at(self.kinds, at)
+    }
+
+    pub fn joint_at(&self, at: usize) -> u8
+        ensures { result ≡ get_or self.now.joints at 0 }
+    {
+        byte_at(self.joints, at)
+    }
+
+    // Whether a raw kind stands at a position of the list.
+    pub fn stands(&self, at: usize, kind: u8) -> bool
+        ensures value { result ≡ stands self.now at kind }
+        ensures at_bound { result ≡ true → at < 2 ^ 63 }
+    {
+        at < self.len() && self.kind_at(at) == kind
+    }
+
+    // A raw kind that stands at a position, and that the next token touches.
+    fn stands_joint(&self, at: usize, kind: u8) -> bool
+        ensures value { result ≡ stands_joint self.now at kind }
+        ensures at_bound { result ≡ true → at < 2 ^ 63 }
+    {
+        self.stands(at, kind) && self.joint_at(at) == 1
+    }
+
+    // "A glued token is present when its parts follow one another, all but the last joint."
+    fn parts_at(&self, at: usize, row: Glued) -> bool
+        ensures value { result ≡ follow self.now at (row_parts row) }
+        ensures at_bound { result ≡ true → at < 2 ^ 63 }
+    {
+        if !self.stands_joint(at, row.first) {
+            return false;
+        }
+        if row.width.0 == 2 {
+            return self.stands(at + 1, row.second);
+        }
+        self.stands_joint(at + 1, row.second) && self.stands(at + 2, row.third)
+    }
+
+    // Whether a kind, raw or glued, is present at a position.
+    pub fn nth_at(&self, at: usize, kind: u8) -> bool
+        ensures value { result ≡ present self.now at kind }
+        ensures at_bound { result ≡ true → at < 2 ^ 63 }
+    {
+        if is_glued(kind) {
+            return self.parts_at(at, row_of(kind));
+        }
+        self.stands(at, kind)
+    }
+
+    // 3: "lists of unequal length, or n above 4,096"
+    pub fn lengths(&self) -> Result<(), Refusal>
+        ensures { result ≡ lengths_of self.now }
+    {
+        if self.kinds.len() != self.joints.len() || Position::LIMIT < self.kinds.len() {
+            return Err(Refusal::new(BAD_LENGTH, 0));
+        }
+        Ok(())
+    }
+
+    // 1, then 2, for the tokens from a position to an end.
+    fn check_bytes(&self, at: usize, end: usize) -> Result<(), Refusal>
+        requires { at ≤ end }
+        ensures { result ≡ bytes_of self.now at (end - at) }
+    {
+        let kind = first_outside(self.kinds, IDENT, QUESTION, at, end);
+        if kind < end {
+            return Err(Refusal::new(BAD_KIND, kind));
+        }
+        let joint = first_outside(self.joints, 0, 1, at, end);
+        if joint < end {
+            return Err(Refusal::new(BAD_JOINT, joint));
+        }
+        Ok(())
+    }
+
+    // The checks of a whole list, in the order 3, 1, 2.
+    pub fn check(&self) -> Result<(), Refusal>
+        ensures { result ≡ tokens_of self.now }
+    {
+        self.lengths()?;
+        self.check_bytes(0, self.len())
+    }
+
+    // 1, then 2, "looking only at the (up to three) tokens from the position on".
+    pub fn check_ahead(&self, at: usize) -> Result<(), Refusal>
+        ensures { result ≡ bytes_of self.now at (ahead self.now at) }
+    {
+        if self.len() <= at {
+            return Ok(());
+        }
+        let left = self.len() - at;
+        self.check_bytes(at, at + left.min(usize::from(Width::LIMIT)))
+    }
 }

@@ -1,4 +1,6 @@
 // The numbers of the paper, each under one name: raw kinds, glued kinds, nodes, steps, error codes and refusals.
+// Kinds, nodes and codes are bytes and steps are u32, and no enums: so they stand in the lent lists, and the machine's calls refuse (8) the
+// numbers that an enum would leave out.
 
 // Past the end of the tokens.
 pub const EOF: u8 = 0;

@@ -6,140 +6,52 @@
 #![tactic(auto)]
 
 use event::State;
-use input::{Position, Refusal};
-use parser::{Closed, CompletedMarker, Marker, Moved, Opened, Parted, Taken};
-use process::Processed;
+use input::{Position, Refusal, Tokens};
+use parser::{CompletedMarker, Marker};
 use std::io;
 
-fn number(rt: &impl Print, n: usize) -> io::Result<()> {
-    rt.print(n as u64)
-}
-
-// A space and a number.
-fn next_number(rt: &impl Print, n: usize) -> io::Result<()> {
-    rt.write_all(b" ")?;
-    number(rt, n)
-}
-
-fn end_line(rt: &impl Print) -> io::Result<()> {
-    rt.write_all(b"\n")
-}
-
 fn sequence(rt: &impl Print, n: usize) -> io::Result<()> {
-    rt.write_all(b"sequence")?;
-    next_number(rt, n)?;
-    end_line(rt)
+    println!(rt; "sequence {n}")
 }
 
-// ok POS COUNT
-fn show_state(rt: &impl Print, state: State) -> io::Result<()> {
-    rt.write_all(b": ok")?;
-    next_number(rt, state.pos.0)?;
-    next_number(rt, state.count)
-}
-
-fn show_on(rt: &impl Print, state: State) -> io::Result<()> {
-    show_state(rt, state)?;
-    end_line(rt)
-}
-
-fn show_marked(rt: &impl Print, state: State, at: usize) -> io::Result<()> {
-    show_state(rt, state)?;
-    rt.write_all(b" marker")?;
-    next_number(rt, at)?;
-    end_line(rt)
-}
-
-fn show_no(rt: &impl Print) -> io::Result<()> {
-    rt.write_all(b": no\n")
-}
-
-fn show_refused(rt: &impl Print, r: Refusal) -> io::Result<()> {
-    rt.write_all(b": refused")?;
-    next_number(rt, r.number as usize)?;
-    rt.write_all(b" at")?;
-    next_number(rt, r.place)?;
-    end_line(rt)
-}
-
-// Each of these prints an answer, and gives the state to go on with: the old one after no and after a refusal.
-fn opened(rt: &impl Print, answer: Opened, old: State) -> io::Result<State> {
+// Prints a call's answer behind its name, and gives the state to go on with: the old one after no and after a refusal.
+fn show(
+    rt: &impl Print,
+    call: &str,
+    answer: Result<Option<(State, Option<usize>)>, Refusal>,
+    old: State,
+) -> io::Result<State> {
     match answer {
-        Opened::Open(state, m) => {
-            show_marked(rt, state, m.0)?;
+        Ok(Some((state, Some(marker)))) => {
+            println!(rt;
+                "{call}: ok {} {} marker {marker}",
+                state.pos.0, state.count
+            )?;
             Ok(state)
         }
-        Opened::Refused(r) => {
-            show_refused(rt, r)?;
-            Ok(old)
-        }
-    }
-}
-
-fn closed(rt: &impl Print, answer: Closed, old: State) -> io::Result<State> {
-    match answer {
-        Closed::Done(state, c) => {
-            show_marked(rt, state, c.0)?;
+        Ok(Some((state, None))) => {
+            println!(rt; "{call}: ok {} {}", state.pos.0, state.count)?;
             Ok(state)
         }
-        Closed::Refused(r) => {
-            show_refused(rt, r)?;
+        Ok(None) => {
+            println!(rt; "{call}: no")?;
             Ok(old)
         }
-    }
-}
-
-fn moved(rt: &impl Print, answer: Moved, old: State) -> io::Result<State> {
-    match answer {
-        Moved::On(state) => {
-            show_on(rt, state)?;
-            Ok(state)
-        }
-        Moved::Refused(r) => {
-            show_refused(rt, r)?;
-            Ok(old)
-        }
-    }
-}
-
-fn taken(rt: &impl Print, answer: Taken, old: State) -> io::Result<State> {
-    match answer {
-        Taken::Took(state) => {
-            show_on(rt, state)?;
-            Ok(state)
-        }
-        Taken::No => {
-            show_no(rt)?;
-            Ok(old)
-        }
-        Taken::Refused(r) => {
-            show_refused(rt, r)?;
-            Ok(old)
-        }
-    }
-}
-
-fn parted(rt: &impl Print, answer: Parted, old: State) -> io::Result<State> {
-    match answer {
-        Parted::Split(state, c) => {
-            show_marked(rt, state, c.0)?;
-            Ok(state)
-        }
-        Parted::No => {
-            show_no(rt)?;
-            Ok(old)
-        }
-        Parted::Refused(r) => {
-            show_refused(rt, r)?;
+        Err(r) => {
+            println!(rt; "{call}: refused {} at {}", r.number, r.place)?;
             Ok(old)
         }
     }
 }
 
 fn start(rt: &impl Print, events: &mut [u64], state: State) -> io::Result<State> {
-    rt.write_all(b"start")?;
     let answer = parser::start(events, state);
-    opened(rt, answer, state)
+    show(
+        rt,
+        "start",
+        answer.map(|(s, m)| Some((s, Some(m.0)))),
+        state,
+    )
 }
 
 fn complete(
@@ -149,21 +61,28 @@ fn complete(
     m: usize,
     node: u8,
 ) -> io::Result<State> {
-    rt.write_all(b"complete")?;
     let answer = parser::complete(events, state, Marker(m), node);
-    closed(rt, answer, state)
+    show(
+        rt,
+        "complete",
+        answer.map(|(s, c)| Some((s, Some(c.0)))),
+        state,
+    )
 }
 
 fn abandon(rt: &impl Print, events: &mut [u64], state: State, m: usize) -> io::Result<State> {
-    rt.write_all(b"abandon")?;
     let answer = parser::abandon(events, state, Marker(m));
-    moved(rt, answer, state)
+    show(rt, "abandon", answer.map(|s| Some((s, None))), state)
 }
 
 fn precede(rt: &impl Print, events: &mut [u64], state: State, c: usize) -> io::Result<State> {
-    rt.write_all(b"precede")?;
     let answer = parser::precede(events, state, CompletedMarker(c));
-    opened(rt, answer, state)
+    show(
+        rt,
+        "precede",
+        answer.map(|(s, m)| Some((s, Some(m.0)))),
+        state,
+    )
 }
 
 fn extend(
@@ -173,118 +92,82 @@ fn extend(
     c: usize,
     m: usize,
 ) -> io::Result<State> {
-    rt.write_all(b"extend")?;
     let answer = parser::extend_to(events, state, CompletedMarker(c), Marker(m));
-    closed(rt, answer, state)
+    show(
+        rt,
+        "extend",
+        answer.map(|(s, c)| Some((s, Some(c.0)))),
+        state,
+    )
 }
 
 fn eat(
     rt: &impl Print,
-    kinds: &[u8],
-    joints: &[u8],
+    tokens: &Tokens,
     events: &mut [u64],
     state: State,
     kind: u8,
 ) -> io::Result<State> {
-    rt.write_all(b"take")?;
-    let answer = parser::eat(kinds, joints, events, state, kind);
-    taken(rt, answer, state)
+    let answer = parser::eat(tokens, events, state, kind);
+    show(
+        rt,
+        "take",
+        answer.map(|taken| taken.map(|s| (s, None))),
+        state,
+    )
 }
 
-fn bump(
-    rt: &impl Print,
-    kinds: &[u8],
-    joints: &[u8],
-    events: &mut [u64],
-    state: State,
-) -> io::Result<State> {
-    rt.write_all(b"take any")?;
-    let answer = parser::bump_any(kinds, joints, events, state);
-    taken(rt, answer, state)
+fn bump(rt: &impl Print, tokens: &Tokens, events: &mut [u64], state: State) -> io::Result<State> {
+    let answer = parser::bump_any(tokens, events, state);
+    show(
+        rt,
+        "take any",
+        answer.map(|taken| taken.map(|s| (s, None))),
+        state,
+    )
 }
 
 fn error(rt: &impl Print, events: &mut [u64], state: State, code: u8) -> io::Result<State> {
-    rt.write_all(b"error")?;
     let answer = parser::error(events, state, code);
-    moved(rt, answer, state)
+    show(rt, "error", answer.map(|s| Some((s, None))), state)
 }
 
 fn split(
     rt: &impl Print,
-    kinds: &[u8],
-    joints: &[u8],
+    tokens: &Tokens,
     events: &mut [u64],
     state: State,
     m: usize,
 ) -> io::Result<State> {
-    rt.write_all(b"split")?;
-    let answer = parser::split_float(kinds, joints, events, state, Marker(m));
-    parted(rt, answer, state)
+    let answer = parser::split_float(tokens, events, state, Marker(m));
+    show(
+        rt,
+        "split",
+        answer.map(|split| split.map(|(s, c)| (s, Some(c.0)))),
+        state,
+    )
 }
 
-fn step_at(steps: &[u32], at: usize) -> u32 {
-    if at < steps.len() { steps[at] } else { 0 }
-}
-
-fn show_step(rt: &impl Print, step: u32) -> io::Result<()> {
-    rt.print(step as u64)?;
-    end_line(rt)
-}
-
-fn show_steps(rt: &impl Print, steps: &[u32], n: usize) -> io::Result<()> {
-    let mut at = 0;
-    while at < n {
-        show_step(rt, step_at(steps, at))?;
-        at += 1;
-    }
-    Ok(())
-}
-
-// Each lent event is 0.
-fn all_zero(events: &[u64]) -> bool {
-    let end = events.len();
-    let mut at = 0;
-    while at < end {
-        if event::event_at(events, at) == 0 {
-            at += 1;
-        } else {
-            return false;
-        }
-    }
-    true
-}
-
-fn show_list(rt: &impl Print, events: &[u64]) -> io::Result<()> {
-    if all_zero(events) {
-        rt.write_all(b"list all 0\n")?;
-    } else {
-        rt.write_all(b"list not all 0\n")?;
-    }
-    Ok(())
-}
-
-fn passed(rt: &impl Print, answer: Processed, steps: &[u32], old: State) -> io::Result<State> {
-    match answer {
-        Processed::Steps(n, state) => {
-            show_state(rt, state)?;
-            rt.write_all(b" steps")?;
-            next_number(rt, n)?;
-            end_line(rt)?;
-            show_steps(rt, steps, n)?;
-            Ok(state)
-        }
-        Processed::Refused(r) => {
-            show_refused(rt, r)?;
-            Ok(old)
-        }
-    }
-}
-
+// The pass, its steps one to a line, and whether each lent event is 0 then.
 fn pass(rt: &impl Print, events: &mut [u64], state: State, steps: &mut [u32]) -> io::Result<State> {
-    rt.write_all(b"pass")?;
-    let answer = process::process(events, state, steps);
-    let next = passed(rt, answer, steps, state)?;
-    show_list(rt, events)?;
+    let next = match process::process(events, state, steps) {
+        Ok((n, next)) => {
+            println!(rt; "pass: ok {} {} steps {n}", next.pos.0, next.count)?;
+            for step in steps.iter().take(n) {
+                println!(rt; "{step}")?;
+            }
+            next
+        }
+        Err(r) => {
+            println!(rt; "pass: refused {} at {}", r.number, r.place)?;
+            state
+        }
+    };
+    if events.iter().all(|&event| event == 0) {
+        println!(rt; "list all 0")?;
+    } else {
+        println!(rt; "list not all 0")?;
+    }
     Ok(next)
 }
 
@@ -302,25 +185,24 @@ fn at(pos: usize, count: usize) -> State {
 // FIELD_EXPR, FIELD_EXPR, PATH_EXPR; the split stands for two leaves, and the finish after it is dropped.
 fn split_in_two(rt: &impl Print) -> io::Result<()> {
     sequence(rt, 1)?;
-    let kinds = [1u8, 16, 3];
-    let joints = [1u8, 1, 1];
+    let tokens = Tokens::new(&[1u8, 16, 3], &[1u8, 1, 1]);
     let mut events = [0u64; 16];
     let mut steps = [0u32; 16];
     let s = State::fresh();
     let s = start(rt, &mut events, s)?;
     let s = start(rt, &mut events, s)?;
-    let s = eat(rt, &kinds, &joints, &mut events, s, 1)?;
+    let s = eat(rt, &tokens, &mut events, s, 1)?;
     let s = complete(rt, &mut events, s, 1, 85)?;
     let s = complete(rt, &mut events, s, 0, 82)?;
     let s = precede(rt, &mut events, s, 0)?;
-    let s = eat(rt, &kinds, &joints, &mut events, s, 16)?;
-    let s = split(rt, &kinds, &joints, &mut events, s, 5)?;
+    let s = eat(rt, &tokens, &mut events, s, 16)?;
+    let s = split(rt, &tokens, &mut events, s, 5)?;
     let s = precede(rt, &mut events, s, 5)?;
     let s = complete(rt, &mut events, s, 5, 95)?;
     let s = complete(rt, &mut events, s, 7, 95)?;
     let s = precede(rt, &mut events, s, 7)?;
     let s = abandon(rt, &mut events, s, 10)?;
-    let s = bump(rt, &kinds, &joints, &mut events, s)?;
+    let s = bump(rt, &tokens, &mut events, s)?;
     pass(rt, &mut events, s, &mut steps)?;
     Ok(())
 }
@@ -329,18 +211,17 @@ fn split_in_two(rt: &impl Print) -> io::Result<()> {
 // preceded by 7, so the chain 0, 3, 7 enters METHOD_CALL_EXPR first. The split stands for one leave.
 fn split_at_dot(rt: &impl Print) -> io::Result<()> {
     sequence(rt, 2)?;
-    let kinds = [1u8, 16, 3];
-    let joints = [1u8, 1, 0];
+    let tokens = Tokens::new(&[1u8, 16, 3], &[1u8, 1, 0]);
     let mut events = [0u64; 16];
     let mut steps = [0u32; 16];
     let s = State::fresh();
     let s = start(rt, &mut events, s)?;
-    let s = eat(rt, &kinds, &joints, &mut events, s, 1)?;
+    let s = eat(rt, &tokens, &mut events, s, 1)?;
     let s = complete(rt, &mut events, s, 0, 85)?;
     let s = precede(rt, &mut events, s, 0)?;
-    let s = eat(rt, &kinds, &joints, &mut events, s, 16)?;
-    let s = split(rt, &kinds, &joints, &mut events, s, 3)?;
-    let s = split(rt, &kinds, &joints, &mut events, s, 3)?;
+    let s = eat(rt, &tokens, &mut events, s, 16)?;
+    let s = split(rt, &tokens, &mut events, s, 3)?;
+    let s = split(rt, &tokens, &mut events, s, 3)?;
     let s = precede(rt, &mut events, s, 3)?;
     let s = complete(rt, &mut events, s, 7, 94)?;
     pass(rt, &mut events, s, &mut steps)?;
@@ -351,21 +232,20 @@ fn split_at_dot(rt: &impl Print) -> io::Result<()> {
 // number.
 fn split_elsewhere(rt: &impl Print) -> io::Result<()> {
     sequence(rt, 3)?;
-    let kinds = [1u8, 3];
-    let joints = [0u8, 0];
+    let tokens = Tokens::new(&[1u8, 3], &[0u8, 0]);
     let mut events = [0u64; 8];
     let mut steps = [0u32; 8];
     let s = State::fresh();
     let s = start(rt, &mut events, s)?;
-    let s = split(rt, &kinds, &joints, &mut events, s, 0)?;
-    let s = split(rt, &kinds, &joints, &mut events, s, 4)?;
-    let s = eat(rt, &kinds, &joints, &mut events, s, 1)?;
+    let s = split(rt, &tokens, &mut events, s, 0)?;
+    let s = split(rt, &tokens, &mut events, s, 4)?;
+    let s = eat(rt, &tokens, &mut events, s, 1)?;
     let s = complete(rt, &mut events, s, 0, 83)?;
-    let s = split(rt, &kinds, &joints, &mut events, s, 0)?;
-    let s = split(rt, &kinds, &joints, &mut events, s, 1)?;
-    let s = split(rt, &kinds, &joints, &mut events, s, 3)?;
+    let s = split(rt, &tokens, &mut events, s, 0)?;
+    let s = split(rt, &tokens, &mut events, s, 1)?;
+    let s = split(rt, &tokens, &mut events, s, 3)?;
     let s = start(rt, &mut events, s)?;
-    let s = split(rt, &kinds, &joints, &mut events, s, 3)?;
+    let s = split(rt, &tokens, &mut events, s, 3)?;
     pass(rt, &mut events, s, &mut steps)?;
     Ok(())
 }
@@ -374,21 +254,20 @@ fn split_elsewhere(rt: &impl Print) -> io::Result<()> {
 // the list; what pushes is refused at position 2 then, and at the end of the tokens both takes answer no, the list full or not.
 fn split_without_room(rt: &impl Print) -> io::Result<()> {
     sequence(rt, 4)?;
-    let kinds = [1u8, 3];
-    let joints = [0u8, 1];
+    let tokens = Tokens::new(&[1u8, 3], &[0u8, 1]);
     let mut events = [0u64; 4];
     let mut steps = [0u32; 8];
     let s = State::fresh();
     let s = start(rt, &mut events, s)?;
-    let s = eat(rt, &kinds, &joints, &mut events, s, 1)?;
-    let s = split(rt, &kinds, &joints, &mut events, s, 0)?;
-    let s = bump(rt, &kinds, &joints, &mut events, s)?;
+    let s = eat(rt, &tokens, &mut events, s, 1)?;
+    let s = split(rt, &tokens, &mut events, s, 0)?;
+    let s = bump(rt, &tokens, &mut events, s)?;
     let s = complete(rt, &mut events, s, 0, 80)?;
     let s = start(rt, &mut events, s)?;
     let s = precede(rt, &mut events, s, 0)?;
     let s = error(rt, &mut events, s, 1)?;
-    let s = eat(rt, &kinds, &joints, &mut events, s, 1)?;
-    let s = bump(rt, &kinds, &joints, &mut events, s)?;
+    let s = eat(rt, &tokens, &mut events, s, 1)?;
+    let s = bump(rt, &tokens, &mut events, s)?;
     pass(rt, &mut events, s, &mut steps)?;
     Ok(())
 }
@@ -396,14 +275,13 @@ fn split_without_room(rt: &impl Print) -> io::Result<()> {
 // A split at a dot pushes two events, which fit into the same list.
 fn split_with_room(rt: &impl Print) -> io::Result<()> {
     sequence(rt, 5)?;
-    let kinds = [1u8, 3];
-    let joints = [0u8, 0];
+    let tokens = Tokens::new(&[1u8, 3], &[0u8, 0]);
     let mut events = [0u64; 4];
     let mut steps = [0u32; 8];
     let s = State::fresh();
     let s = start(rt, &mut events, s)?;
-    let s = eat(rt, &kinds, &joints, &mut events, s, 1)?;
-    let s = split(rt, &kinds, &joints, &mut events, s, 0)?;
+    let s = eat(rt, &tokens, &mut events, s, 1)?;
+    let s = split(rt, &tokens, &mut events, s, 0)?;
     let s = start(rt, &mut events, s)?;
     pass(rt, &mut events, s, &mut steps)?;
     Ok(())
@@ -413,8 +291,7 @@ fn split_with_room(rt: &impl Print) -> io::Result<()> {
 // split at INT_NUMBER answer no. Abandon pushes nothing: 1 is last and popped, and then the finish of 0 fits.
 fn full_list(rt: &impl Print) -> io::Result<()> {
     sequence(rt, 6)?;
-    let kinds = [2u8];
-    let joints = [0u8];
+    let tokens = Tokens::new(&[2u8], &[0u8]);
     let mut events = [0u64; 2];
     let mut steps = [0u32; 4];
     let s = State::fresh();
@@ -424,11 +301,11 @@ fn full_list(rt: &impl Print) -> io::Result<()> {
     let s = complete(rt, &mut events, s, 1, 82)?;
     let s = complete(rt, &mut events, s, 1, 79)?;
     let s = complete(rt, &mut events, s, 1, 100)?;
-    let s = eat(rt, &kinds, &joints, &mut events, s, 2)?;
-    let s = eat(rt, &kinds, &joints, &mut events, s, 1)?;
-    let s = eat(rt, &kinds, &joints, &mut events, s, 64)?;
-    let s = bump(rt, &kinds, &joints, &mut events, s)?;
-    let s = split(rt, &kinds, &joints, &mut events, s, 1)?;
+    let s = eat(rt, &tokens, &mut events, s, 2)?;
+    let s = eat(rt, &tokens, &mut events, s, 1)?;
+    let s = eat(rt, &tokens, &mut events, s, 64)?;
+    let s = bump(rt, &tokens, &mut events, s)?;
+    let s = split(rt, &tokens, &mut events, s, 1)?;
     let s = error(rt, &mut events, s, 7)?;
     let s = error(rt, &mut events, s, 8)?;
     let s = abandon(rt, &mut events, s, 1)?;
@@ -441,8 +318,7 @@ fn full_list(rt: &impl Print) -> io::Result<()> {
 // marker, kind and code here.
 fn count_too_large(rt: &impl Print) -> io::Result<()> {
     sequence(rt, 7)?;
-    let kinds = [30u8];
-    let joints = [0u8];
+    let tokens = Tokens::new(&[30u8], &[0u8]);
     let mut events = [0u64; 2];
     let mut steps = [0u32; 4];
     let s = at(0, 3);
@@ -451,10 +327,10 @@ fn count_too_large(rt: &impl Print) -> io::Result<()> {
     let s = abandon(rt, &mut events, s, 5)?;
     let s = precede(rt, &mut events, s, 5)?;
     let s = extend(rt, &mut events, s, 5, 4)?;
-    let s = eat(rt, &kinds, &joints, &mut events, s, 64)?;
-    let s = bump(rt, &kinds, &joints, &mut events, s)?;
+    let s = eat(rt, &tokens, &mut events, s, 64)?;
+    let s = bump(rt, &tokens, &mut events, s)?;
     let s = error(rt, &mut events, s, 8)?;
-    let s = split(rt, &kinds, &joints, &mut events, s, 5)?;
+    let s = split(rt, &tokens, &mut events, s, 5)?;
     pass(rt, &mut events, s, &mut steps)?;
     Ok(())
 }
@@ -463,14 +339,13 @@ fn count_too_large(rt: &impl Print) -> io::Result<()> {
 // and refuses 9 at 4,097.
 fn position_too_large(rt: &impl Print) -> io::Result<()> {
     sequence(rt, 8)?;
-    let kinds = [1u8];
-    let joints = [0u8];
+    let tokens = Tokens::new(&[1u8], &[0u8]);
     let mut events = [0u64; 4];
     let mut steps = [0u32; 4];
     let s = at(2, 0);
-    let s = eat(rt, &kinds, &joints, &mut events, s, 1)?;
-    let s = bump(rt, &kinds, &joints, &mut events, s)?;
-    let s = split(rt, &kinds, &joints, &mut events, s, 0)?;
+    let s = eat(rt, &tokens, &mut events, s, 1)?;
+    let s = bump(rt, &tokens, &mut events, s)?;
+    let s = split(rt, &tokens, &mut events, s, 0)?;
     start(rt, &mut events, s)?;
     let s = at(4096, 1);
     error(rt, &mut events, s, 1)?;
@@ -487,16 +362,15 @@ fn position_too_large(rt: &impl Print) -> io::Result<()> {
 // before the 8 of kind 64 and of marker 0, which is a token event. Start reads no tokens.
 fn bad_kind(rt: &impl Print) -> io::Result<()> {
     sequence(rt, 9)?;
-    let kinds = [1u8, 2, 2, 0];
-    let joints = [0u8, 0, 0, 0];
+    let tokens = Tokens::new(&[1u8, 2, 2, 0], &[0u8, 0, 0, 0]);
     let mut events = [0u64; 8];
     let mut steps = [0u32; 8];
     let s = State::fresh();
-    let s = eat(rt, &kinds, &joints, &mut events, s, 1)?;
-    let s = eat(rt, &kinds, &joints, &mut events, s, 2)?;
-    let s = bump(rt, &kinds, &joints, &mut events, s)?;
-    let s = split(rt, &kinds, &joints, &mut events, s, 0)?;
-    let s = eat(rt, &kinds, &joints, &mut events, s, 64)?;
+    let s = eat(rt, &tokens, &mut events, s, 1)?;
+    let s = eat(rt, &tokens, &mut events, s, 2)?;
+    let s = bump(rt, &tokens, &mut events, s)?;
+    let s = split(rt, &tokens, &mut events, s, 0)?;
+    let s = eat(rt, &tokens, &mut events, s, 64)?;
     let s = start(rt, &mut events, s)?;
     let s = complete(rt, &mut events, s, 1, 81)?;
     pass(rt, &mut events, s, &mut steps)?;
@@ -506,16 +380,15 @@ fn bad_kind(rt: &impl Print) -> io::Result<()> {
 // The same with a joint byte of 2.
 fn bad_joint(rt: &impl Print) -> io::Result<()> {
     sequence(rt, 10)?;
-    let kinds = [1u8, 2, 2, 2];
-    let joints = [0u8, 0, 0, 2];
+    let tokens = Tokens::new(&[1u8, 2, 2, 2], &[0u8, 0, 0, 2]);
     let mut events = [0u64; 8];
     let mut steps = [0u32; 8];
     let s = State::fresh();
-    let s = eat(rt, &kinds, &joints, &mut events, s, 1)?;
-    let s = eat(rt, &kinds, &joints, &mut events, s, 2)?;
-    let s = bump(rt, &kinds, &joints, &mut events, s)?;
-    let s = split(rt, &kinds, &joints, &mut events, s, 0)?;
-    let s = eat(rt, &kinds, &joints, &mut events, s, 64)?;
+    let s = eat(rt, &tokens, &mut events, s, 1)?;
+    let s = eat(rt, &tokens, &mut events, s, 2)?;
+    let s = bump(rt, &tokens, &mut events, s)?;
+    let s = split(rt, &tokens, &mut events, s, 0)?;
+    let s = eat(rt, &tokens, &mut events, s, 64)?;
     let s = error(rt, &mut events, s, 2)?;
     pass(rt, &mut events, s, &mut steps)?;
     Ok(())
@@ -524,31 +397,29 @@ fn bad_joint(rt: &impl Print) -> io::Result<()> {
 // 1 comes before 2, though the joint byte stands at the earlier index.
 fn bad_kind_first(rt: &impl Print) -> io::Result<()> {
     sequence(rt, 11)?;
-    let kinds = [1u8, 30];
-    let joints = [2u8, 0];
+    let tokens = Tokens::new(&[1u8, 30], &[2u8, 0]);
     let mut events = [0u64; 8];
     let s = State::fresh();
-    let s = eat(rt, &kinds, &joints, &mut events, s, 1)?;
-    let s = bump(rt, &kinds, &joints, &mut events, s)?;
-    split(rt, &kinds, &joints, &mut events, s, 0)?;
+    let s = eat(rt, &tokens, &mut events, s, 1)?;
+    let s = bump(rt, &tokens, &mut events, s)?;
+    split(rt, &tokens, &mut events, s, 0)?;
     Ok(())
 }
 
 // Two kinds and one joint byte: 3 at 0, before the 9 of a count above the list's length. Start reads no tokens.
 fn unequal_lists(rt: &impl Print) -> io::Result<()> {
     sequence(rt, 12)?;
-    let kinds = [1u8, 30];
-    let joints = [0u8];
+    let tokens = Tokens::new(&[1u8, 30], &[0u8]);
     let mut events = [0u64; 2];
     let s = State::fresh();
-    let s = eat(rt, &kinds, &joints, &mut events, s, 1)?;
-    let s = bump(rt, &kinds, &joints, &mut events, s)?;
-    let s = split(rt, &kinds, &joints, &mut events, s, 0)?;
+    let s = eat(rt, &tokens, &mut events, s, 1)?;
+    let s = bump(rt, &tokens, &mut events, s)?;
+    let s = split(rt, &tokens, &mut events, s, 0)?;
     start(rt, &mut events, s)?;
     let s = at(0, 3);
-    let s = eat(rt, &kinds, &joints, &mut events, s, 1)?;
-    let s = bump(rt, &kinds, &joints, &mut events, s)?;
-    split(rt, &kinds, &joints, &mut events, s, 0)?;
+    let s = eat(rt, &tokens, &mut events, s, 1)?;
+    let s = bump(rt, &tokens, &mut events, s)?;
+    split(rt, &tokens, &mut events, s, 0)?;
     Ok(())
 }
 
@@ -556,21 +427,20 @@ fn unequal_lists(rt: &impl Print) -> io::Result<()> {
 // and 64 are no kinds, at the end too.
 fn glued_of_two(rt: &impl Print) -> io::Result<()> {
     sequence(rt, 13)?;
-    let kinds = [20u8, 26, 20, 26];
-    let joints = [1u8, 0, 0, 0];
+    let tokens = Tokens::new(&[20u8, 26, 20, 26], &[1u8, 0, 0, 0]);
     let mut events = [0u64; 8];
     let mut steps = [0u32; 8];
     let s = State::fresh();
-    let s = eat(rt, &kinds, &joints, &mut events, s, 41)?;
-    let s = eat(rt, &kinds, &joints, &mut events, s, 40)?;
-    let s = eat(rt, &kinds, &joints, &mut events, s, 40)?;
-    let s = eat(rt, &kinds, &joints, &mut events, s, 20)?;
-    let s = eat(rt, &kinds, &joints, &mut events, s, 26)?;
-    let s = eat(rt, &kinds, &joints, &mut events, s, 26)?;
-    let s = eat(rt, &kinds, &joints, &mut events, s, 0)?;
-    let s = eat(rt, &kinds, &joints, &mut events, s, 30)?;
-    let s = eat(rt, &kinds, &joints, &mut events, s, 39)?;
-    let s = eat(rt, &kinds, &joints, &mut events, s, 64)?;
+    let s = eat(rt, &tokens, &mut events, s, 41)?;
+    let s = eat(rt, &tokens, &mut events, s, 40)?;
+    let s = eat(rt, &tokens, &mut events, s, 40)?;
+    let s = eat(rt, &tokens, &mut events, s, 20)?;
+    let s = eat(rt, &tokens, &mut events, s, 26)?;
+    let s = eat(rt, &tokens, &mut events, s, 26)?;
+    let s = eat(rt, &tokens, &mut events, s, 0)?;
+    let s = eat(rt, &tokens, &mut events, s, 30)?;
+    let s = eat(rt, &tokens, &mut events, s, 39)?;
+    let s = eat(rt, &tokens, &mut events, s, 64)?;
     pass(rt, &mut events, s, &mut steps)?;
     Ok(())
 }
@@ -579,18 +449,17 @@ fn glued_of_two(rt: &impl Print) -> io::Result<()> {
 // present.
 fn glued_of_three(rt: &impl Print) -> io::Result<()> {
     sequence(rt, 14)?;
-    let kinds = [16u8, 16, 16, 16];
-    let joints = [1u8, 1, 0, 0];
+    let tokens = Tokens::new(&[16u8, 16, 16, 16], &[1u8, 1, 0, 0]);
     let mut events = [0u64; 8];
     let mut steps = [0u32; 8];
     let s = State::fresh();
-    let s = eat(rt, &kinds, &joints, &mut events, s, 61)?;
-    let s = eat(rt, &kinds, &joints, &mut events, s, 60)?;
-    let s = eat(rt, &kinds, &joints, &mut events, s, 60)?;
-    let s = eat(rt, &kinds, &joints, &mut events, s, 44)?;
-    let s = eat(rt, &kinds, &joints, &mut events, s, 16)?;
-    let s = bump(rt, &kinds, &joints, &mut events, s)?;
-    let s = eat(rt, &kinds, &joints, &mut events, s, 16)?;
+    let s = eat(rt, &tokens, &mut events, s, 61)?;
+    let s = eat(rt, &tokens, &mut events, s, 60)?;
+    let s = eat(rt, &tokens, &mut events, s, 60)?;
+    let s = eat(rt, &tokens, &mut events, s, 44)?;
+    let s = eat(rt, &tokens, &mut events, s, 16)?;
+    let s = bump(rt, &tokens, &mut events, s)?;
+    let s = eat(rt, &tokens, &mut events, s, 16)?;
     pass(rt, &mut events, s, &mut steps)?;
     Ok(())
 }
@@ -598,14 +467,13 @@ fn glued_of_three(rt: &impl Print) -> io::Result<()> {
 // At four touching dots `..` is present too, and `.` is: take any and take `.` take one raw token each.
 fn glued_in_parts(rt: &impl Print) -> io::Result<()> {
     sequence(rt, 15)?;
-    let kinds = [16u8, 16, 16, 16];
-    let joints = [1u8, 1, 1, 0];
+    let tokens = Tokens::new(&[16u8, 16, 16, 16], &[1u8, 1, 1, 0]);
     let mut events = [0u64; 8];
     let mut steps = [0u32; 8];
     let s = State::fresh();
-    let s = eat(rt, &kinds, &joints, &mut events, s, 44)?;
-    let s = bump(rt, &kinds, &joints, &mut events, s)?;
-    let s = eat(rt, &kinds, &joints, &mut events, s, 16)?;
+    let s = eat(rt, &tokens, &mut events, s, 44)?;
+    let s = bump(rt, &tokens, &mut events, s)?;
+    let s = eat(rt, &tokens, &mut events, s, 16)?;
     pass(rt, &mut events, s, &mut steps)?;
     Ok(())
 }
@@ -614,8 +482,7 @@ fn glued_in_parts(rt: &impl Print) -> io::Result<()> {
 // skipped. 4 is last but made by precede: it stays too, so 0 keeps its forward parent. An abandoned and a closed marker are unfit.
 fn abandoned(rt: &impl Print) -> io::Result<()> {
     sequence(rt, 16)?;
-    let kinds = [1u8, 2];
-    let joints = [0u8, 0];
+    let tokens = Tokens::new(&[1u8, 2], &[0u8, 0]);
     let mut events = [0u64; 8];
     let mut steps = [0u32; 8];
     let s = State::fresh();
@@ -624,7 +491,7 @@ fn abandoned(rt: &impl Print) -> io::Result<()> {
     let s = abandon(rt, &mut events, s, 1)?;
     let s = abandon(rt, &mut events, s, 1)?;
     let s = start(rt, &mut events, s)?;
-    let s = eat(rt, &kinds, &joints, &mut events, s, 1)?;
+    let s = eat(rt, &tokens, &mut events, s, 1)?;
     let s = abandon(rt, &mut events, s, 1)?;
     let s = abandon(rt, &mut events, s, 1)?;
     let s = complete(rt, &mut events, s, 1, 83)?;
@@ -642,21 +509,20 @@ fn abandoned(rt: &impl Print) -> io::Result<()> {
 // AWAIT_EXPR, TRY_EXPR, PATH_EXPR. The pass gives a fresh list and state, where start gives marker 0 again.
 fn preceded_twice(rt: &impl Print) -> io::Result<()> {
     sequence(rt, 17)?;
-    let kinds = [1u8, 29, 29];
-    let joints = [0u8, 0, 0];
+    let tokens = Tokens::new(&[1u8, 29, 29], &[0u8, 0, 0]);
     let mut events = [0u64; 16];
     let mut steps = [0u32; 16];
     let s = State::fresh();
     let s = start(rt, &mut events, s)?;
-    let s = eat(rt, &kinds, &joints, &mut events, s, 1)?;
+    let s = eat(rt, &tokens, &mut events, s, 1)?;
     let s = complete(rt, &mut events, s, 0, 82)?;
     let s = precede(rt, &mut events, s, 0)?;
     let s = precede(rt, &mut events, s, 0)?;
     let s = precede(rt, &mut events, s, 3)?;
-    let s = eat(rt, &kinds, &joints, &mut events, s, 29)?;
+    let s = eat(rt, &tokens, &mut events, s, 29)?;
     let s = complete(rt, &mut events, s, 3, 97)?;
     let s = precede(rt, &mut events, s, 3)?;
-    let s = eat(rt, &kinds, &joints, &mut events, s, 29)?;
+    let s = eat(rt, &tokens, &mut events, s, 29)?;
     let s = complete(rt, &mut events, s, 6, 96)?;
     let s = complete(rt, &mut events, s, 6, 96)?;
     let s = pass(rt, &mut events, s, &mut steps)?;
@@ -668,15 +534,14 @@ fn preceded_twice(rt: &impl Print) -> io::Result<()> {
 // takes it. The chain 0, 2, 5 enters PAREN_EXPR and LITERAL; the chain of 1 finds 2 nameless.
 fn extended(rt: &impl Print) -> io::Result<()> {
     sequence(rt, 18)?;
-    let kinds = [2u8];
-    let joints = [0u8];
+    let tokens = Tokens::new(&[2u8], &[0u8]);
     let mut events = [0u64; 16];
     let mut steps = [0u32; 16];
     let s = State::fresh();
     let s = start(rt, &mut events, s)?;
     let s = start(rt, &mut events, s)?;
     let s = start(rt, &mut events, s)?;
-    let s = eat(rt, &kinds, &joints, &mut events, s, 2)?;
+    let s = eat(rt, &tokens, &mut events, s, 2)?;
     let s = complete(rt, &mut events, s, 2, 81)?;
     let s = extend(rt, &mut events, s, 2, 0)?;
     let s = extend(rt, &mut events, s, 2, 1)?;
@@ -732,13 +597,12 @@ fn extended_and_preceded(rt: &impl Print) -> io::Result<()> {
 // position 1 and leaves the events as they are; in room of two it gives them.
 fn errors_and_room(rt: &impl Print) -> io::Result<()> {
     sequence(rt, 21)?;
-    let kinds = [1u8];
-    let joints = [0u8];
+    let tokens = Tokens::new(&[1u8], &[0u8]);
     let mut events = [0u64; 8];
     let mut steps = [0u32; 2];
     let mut few = [0u32; 1];
     let s = State::fresh();
-    let s = bump(rt, &kinds, &joints, &mut events, s)?;
+    let s = bump(rt, &tokens, &mut events, s)?;
     let s = error(rt, &mut events, s, 0)?;
     let s = error(rt, &mut events, s, 8)?;
     let s = error(rt, &mut events, s, 7)?;

@@ -1,4 +1,5 @@
 -- The part that `operand` gives is the matching stretch, and there is none exactly where it gives none. By induction on the turns that are left. Assumes nothing.
+use Rattle.std.proofs.Common.{Result, Ok, Err}
 use mathlib.Core.Path.{◌≡◌, refl, sym, ap, subst, ◌∙◌}
 use mathlib.Core.Bool.{Bool, true, false}
 use mathlib.Core.List.{List, []}
@@ -13,8 +14,6 @@ use Rattle.base.proofs.Cases.{whether_by}
 use Rattle.input.specs.SyntaxKind.{ENTER, LEAVE, FLOAT_SPLIT, ENDS_IN_DOT, ERROR, PATH_TYPE}
 use Rattle.input.specs.Input.{refusal}
 use Rattle.input.specs.declared.Refusal.{Refusal}
-use Rattle.input.specs.declared.Checked.{Checked}
-use Rattle.input.specs.declared.Checked.TheVariants.{Fine, Refused}
 use Rattle.input.proofs.Laws.{within_bounds, not_both, true_or_false}
 use Rattle.operand.specs.Operand.{NO_OPERAND, is_enter, leaves_of, match_turn, match_of, end_of, operand_of, check_of}
 use Rattle.operand.specs.Matching.{enters_of, entered, left, Matches, FindsTheMatch, RefusesWithout, Shown, ShowsOrRefuses, EmptyWhereRefused}
@@ -151,34 +150,34 @@ one_match : (steps : List ℕ) (at j k : ℕ) → Matches steps at j → Matches
 one_match steps at j k m n l = let z : left steps at j < entered steps at j = n.before j m.some l in omega (arith, m.caught)
 
 -- the end, where a node is entered and where none is
-end_matched : (steps : List ℕ) (at : ℕ) → is_enter (get_or steps at 0) ≡ true → match_of steps at ≡ end_of steps at
-end_matched steps at x = end_entered steps at refl refl x refl
+end_matched : (steps : List ℕ) (at : ℕ) → is_enter (get_or steps at 0) ≡ true → end_of steps at ≡ match_of steps at
+end_matched steps at x = end_entered steps at refl refl x
 
 pub finds_the_match : FindsTheMatch
 finds_the_match steps at k m = go (found steps at m.enter)
   where
-    end : match_of steps at ≡ end_of steps at
+    end : end_of steps at ≡ match_of steps at
     end = end_matched steps at m.enter
 
-    go : Found steps at m.enter (match_of steps at) → (operand_of steps at ≡ take k (drop at steps)) × (check_of steps at ≡ Fine)
+    go : Found steps at m.enter (match_of steps at) → (operand_of steps at ≡ take k (drop at steps)) × (check_of steps at ≡ Ok tt)
     go (inl f) = absurd (let z : left steps at k < entered steps at k = f.1 k m.some m.inside in omega (arith, m.caught))
     go (inr f) =
         let e : match_of steps at - at ≡ k = trichotomy (match_of steps at - at) k (λ l. one_match steps at _ _ f.1 m l) (λ l. one_match steps at _ _ m f.1 l) in
-        (sym (part_some steps at end) ∙ rw e, sym (check_fine steps at end (λ z. omega (arith, f.0, z))))
+        (sym (part_some steps at (sym end)) ∙ rw e, sym (check_fine steps at (λ z. omega (arith, f.0, z, end))))
 
 pub refuses_without : RefusesWithout
 refuses_without steps at none = go (is_enter (get_or steps at 0)) refl
   where
-    empty : end_of steps at ≡ 0 → (operand_of steps at ≡ []) × (check_of steps at ≡ Refused (refusal NO_OPERAND at))
-    empty e = (sym (part_none steps at (sym e) (omega arith)), sym (check_none steps at (sym e) refl))
+    empty : end_of steps at ≡ 0 → (operand_of steps at ≡ []) × (check_of steps at ≡ Err (refusal NO_OPERAND at))
+    empty e = (sym (part_none steps at e), sym (check_none steps at e))
 
     none_found : (x : is_enter (get_or steps at 0) ≡ true) → Found steps at x (match_of steps at) → end_of steps at ≡ 0
-    none_found x (inl f) = sym (end_matched steps at x) ∙ f.0
+    none_found x (inl f) = end_matched steps at x ∙ f.0
     none_found x (inr f) = absurd (none _ f.1)
 
-    go : (b : Bool) → is_enter (get_or steps at 0) ≡ b → (operand_of steps at ≡ []) × (check_of steps at ≡ Refused (refusal NO_OPERAND at))
+    go : (b : Bool) → is_enter (get_or steps at 0) ≡ b → (operand_of steps at ≡ []) × (check_of steps at ≡ Err (refusal NO_OPERAND at))
     go true x = empty (none_found x (found steps at x))
-    go false x = empty (sym (end_other steps at refl refl x))
+    go false x = empty (end_other steps at refl refl x)
 
 -- an enter that is never matched: behind it fewer are left than entered, however far one looks
 pub unmatched : (steps : List ℕ) (at : ℕ) → is_enter (get_or steps at 0) ≡ true → end_of steps at ≡ 0 → (j : ℕ) → 1 ≤ j → at + j ≤ length steps → left steps at j < entered steps at j
@@ -193,22 +192,22 @@ pub end_is_a_match : (steps : List ℕ) (at : ℕ) → is_enter (get_or steps at
 end_is_a_match steps at x e = go (found steps at x)
   where
     go : Found steps at x (match_of steps at) → Shown steps at
-    go (inl f) = absurd (e (sym (end_matched steps at x) ∙ f.0))
+    go (inl f) = absurd (e (end_matched steps at x ∙ f.0))
     go (inr f) = let m = finds_the_match steps at (match_of steps at - at) f.1 in record { many = match_of steps at - at; matches = f.1; part = m.0; is_fine = m.1 }
 
 pub shows_or_refuses : ShowsOrRefuses
 shows_or_refuses steps at = go (is_enter (get_or steps at 0)) refl
   where
-    refused : end_of steps at ≡ 0 → Shown steps at ⊎ ((operand_of steps at ≡ []) × (check_of steps at ≡ Refused (refusal NO_OPERAND at)))
-    refused e = inr (sym (part_none steps at (sym e) (omega arith)), sym (check_none steps at (sym e) refl))
+    refused : end_of steps at ≡ 0 → Shown steps at ⊎ ((operand_of steps at ≡ []) × (check_of steps at ≡ Err (refusal NO_OPERAND at)))
+    refused e = inr (sym (part_none steps at e), sym (check_none steps at e))
 
-    end : (x : is_enter (get_or steps at 0) ≡ true) (b : Bool) → eqb (end_of steps at) 0 ≡ b → Shown steps at ⊎ ((operand_of steps at ≡ []) × (check_of steps at ≡ Refused (refusal NO_OPERAND at)))
+    end : (x : is_enter (get_or steps at 0) ≡ true) (b : Bool) → eqb (end_of steps at) 0 ≡ b → Shown steps at ⊎ ((operand_of steps at ≡ []) × (check_of steps at ≡ Err (refusal NO_OPERAND at)))
     end x true q = refused (eqb-true _ _ q)
     end x false q = inl (end_is_a_match steps at x (λ e. not_both (eqb (end_of steps at) 0) (eq-eqb _ _ e) q))
 
-    go : (b : Bool) → is_enter (get_or steps at 0) ≡ b → Shown steps at ⊎ ((operand_of steps at ≡ []) × (check_of steps at ≡ Refused (refusal NO_OPERAND at)))
+    go : (b : Bool) → is_enter (get_or steps at 0) ≡ b → Shown steps at ⊎ ((operand_of steps at ≡ []) × (check_of steps at ≡ Err (refusal NO_OPERAND at)))
     go true x = end x (eqb (end_of steps at) 0) refl
-    go false x = refused (sym (end_other steps at refl refl x))
+    go false x = refused (end_other steps at refl refl x)
 
 -- a part that is shown has a step at least
 some_part : (steps : List ℕ) (at : ℕ) → Shown steps at → operand_of steps at ≡ [] → ⊥
@@ -216,12 +215,12 @@ some_part steps at s q =
     let long : length (take s.many (drop at steps)) ≡ 0 = ap length (sym s.part ∙ q) in
     omega (arith, s.matches.some, s.matches.inside, simp (length-take, length-drop) at long)
 
-fine_or_refused : {c : Checked} {r : Refusal} → c ≡ Fine → c ≡ Refused r → ⊥
-fine_or_refused p q = let z : ◌≡◌ {A = ℕ} 0 1 = cc in omega arith
+fine_or_refused : {c : Result Unit Refusal} {r : Refusal} → c ≡ Ok tt → c ≡ Err r → ⊥
+fine_or_refused p q = cc
 
 pub empty_where_refused : EmptyWhereRefused
 empty_where_refused steps at = go (shows_or_refuses steps at)
   where
-    go : Shown steps at ⊎ ((operand_of steps at ≡ []) × (check_of steps at ≡ Refused (refusal NO_OPERAND at))) → (operand_of steps at ≡ [] → check_of steps at ≡ Refused (refusal NO_OPERAND at)) × ((r : Refusal) → check_of steps at ≡ Refused r → operand_of steps at ≡ [])
+    go : Shown steps at ⊎ ((operand_of steps at ≡ []) × (check_of steps at ≡ Err (refusal NO_OPERAND at))) → (operand_of steps at ≡ [] → check_of steps at ≡ Err (refusal NO_OPERAND at)) × ((r : Refusal) → check_of steps at ≡ Err r → operand_of steps at ≡ [])
     go (inl s) = ((λ q. absurd (some_part steps at s q)), (λ r q. absurd (fine_or_refused s.is_fine q)))
     go (inr e) = ((λ _. e.1), (λ r _. e.0))

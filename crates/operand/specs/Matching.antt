@@ -1,9 +1,8 @@
 -- What a matching leave is, apart from any way to find it: the first at which a node's enter and the enters behind it are made up for.
-use Rattle.std.specs.Prelude.{ℕ, zero, suc, ◌+◌, ◌≤◌, ◌<◌, ◌≡◌, true, List, [], ◌⊎◌, length, get_or, take, drop}
+use Rattle.std.specs.Prelude.{ℕ, zero, suc, ◌+◌, ◌≤◌, ◌<◌, ◌≡◌, true, List, [], ◌⊎◌, length, get_or, take, drop, Ok, Err}
 use Rattle.base.specs.Base.{whether}
 use Rattle.input.specs.Input.{refusal}
 use Rattle.input.specs.declared.Refusal.{Refusal}
-use Rattle.input.specs.declared.Checked.TheVariants.{Fine, Refused}
 use Rattle.operand.specs.Operand.{NO_OPERAND, is_enter, leaves_of, operand_of, check_of}
 
 -- how many nodes a step enters
@@ -29,23 +28,23 @@ pub record Matches (steps : List ℕ) (at k : ℕ) : Type 0 where
 
 -- where there is a match, the part is that stretch and nothing is refused
 abbrev pub FindsTheMatch : Type 0
-FindsTheMatch = (steps : List ℕ) (at k : ℕ) → Matches steps at k → (operand_of steps at ≡ take k (drop at steps)) × (check_of steps at ≡ Fine)
+FindsTheMatch = (steps : List ℕ) (at k : ℕ) → Matches steps at k → (operand_of steps at ≡ take k (drop at steps)) × (check_of steps at ≡ Ok tt)
 
 -- "An index that isn't an enter, or an enter never matched, gets an empty part and refusal 16 with that index as place."
 abbrev pub RefusesWithout : Type 0
-RefusesWithout = (steps : List ℕ) (at : ℕ) → ((k : ℕ) → Matches steps at k → ⊥) → (operand_of steps at ≡ []) × (check_of steps at ≡ Refused (refusal NO_OPERAND at))
+RefusesWithout = (steps : List ℕ) (at : ℕ) → ((k : ℕ) → Matches steps at k → ⊥) → (operand_of steps at ≡ []) × (check_of steps at ≡ Err (refusal NO_OPERAND at))
 
 -- a part that is shown: the stretch that matches, and no refusal
 pub record Shown (steps : List ℕ) (at : ℕ) : Type 0 where
   pub many : ℕ
   pub matches : Matches steps at many
   pub part : operand_of steps at ≡ take many (drop at steps)
-  pub is_fine : check_of steps at ≡ Fine
+  pub is_fine : check_of steps at ≡ Ok tt
 
 -- the part is shown, or it is empty and 16 is given
 abbrev pub ShowsOrRefuses : Type 0
-ShowsOrRefuses = (steps : List ℕ) (at : ℕ) → Shown steps at ⊎ ((operand_of steps at ≡ []) × (check_of steps at ≡ Refused (refusal NO_OPERAND at)))
+ShowsOrRefuses = (steps : List ℕ) (at : ℕ) → Shown steps at ⊎ ((operand_of steps at ≡ []) × (check_of steps at ≡ Err (refusal NO_OPERAND at)))
 
 -- and it is empty exactly where 16 is given
 abbrev pub EmptyWhereRefused : Type 0
-EmptyWhereRefused = (steps : List ℕ) (at : ℕ) → (operand_of steps at ≡ [] → check_of steps at ≡ Refused (refusal NO_OPERAND at)) × ((r : Refusal) → check_of steps at ≡ Refused r → operand_of steps at ≡ [])
+EmptyWhereRefused = (steps : List ℕ) (at : ℕ) → (operand_of steps at ≡ [] → check_of steps at ≡ Err (refusal NO_OPERAND at)) × ((r : Refusal) → check_of steps at ≡ Err r → operand_of steps at ≡ [])

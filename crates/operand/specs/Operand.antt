@@ -1,10 +1,9 @@
 -- "Show me one operand": the caller's own steps, from an enter to its matching leave.
-use Rattle.std.specs.Prelude.{ℕ, suc, ◌+◌, ◌-◌, Bool, List, length, get_or, take, drop, ltb, leb, eqb}
+use Rattle.std.specs.Prelude.{ℕ, suc, ◌+◌, ◌-◌, Bool, List, length, get_or, take, drop, ltb, leb, eqb, Result, Ok, Err}
 use Rattle.base.specs.Base.{whether, bound, Next, again, done, loops}
 use Rattle.input.specs.SyntaxKind.{ENTER, LEAVE, FLOAT_SPLIT, ENDS_IN_DOT, ERROR, PATH_TYPE}
 use Rattle.input.specs.Input.{within, refusal}
-use Rattle.input.specs.declared.Checked.{Checked}
-use Rattle.input.specs.declared.Checked.TheVariants.{Fine, Refused}
+use Rattle.input.specs.declared.Refusal.{Refusal}
 
 -- "refusal 16"
 abbrev pub NO_OPERAND : ℕ
@@ -44,5 +43,5 @@ unfoldable pub operand_of : List ℕ → ℕ → List ℕ
 operand_of steps at = take (end_of steps at - at) (drop at steps)
 
 -- "and refusal 16 with that index as place"
-unfoldable pub check_of : List ℕ → ℕ → Checked
-check_of steps at = whether (eqb (end_of steps at) 0) (λ _. Refused (refusal NO_OPERAND at)) (λ _. Fine)
+unfoldable pub check_of : List ℕ → ℕ → Result Unit Refusal
+check_of steps at = whether (eqb (end_of steps at) 0) (λ _. Err (refusal NO_OPERAND at)) (λ _. Ok tt)

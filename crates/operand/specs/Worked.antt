@@ -1,9 +1,8 @@
 -- Hand-worked operands: of P9, `a.0.1` with a joint on the float, whose split leaves two nodes; of P10, `a.0. b`, whose split leaves one; of steps that are not sound.
-use Rattle.std.specs.Prelude.{ℕ, ◌+◌, ◌≡◌, refl, List, [], ◌∷◌}
+use Rattle.std.specs.Prelude.{ℕ, ◌+◌, ◌≡◌, refl, List, [], ◌∷◌, Ok, Err}
 use Rattle.base.specs.Base.{whether, bound, on_next, loops}
 use Rattle.input.specs.SyntaxKind.{IDENT, DOT, ENTER, TOKEN, LEAVE, FLOAT_SPLIT, WIDTH_STEP, ENDS_IN_DOT, PATH_EXPR, PATH, PATH_SEGMENT, NAME_REF, FIELD_EXPR}
 use Rattle.input.specs.Input.{refusal}
-use Rattle.input.specs.declared.Checked.TheVariants.{Fine, Refused}
 use Rattle.operand.specs.Operand.{NO_OPERAND, is_enter, leaves_of, match_turn, match_of, end_of, operand_of, check_of}
 
 abbrev enter : ℕ → ℕ
@@ -42,16 +41,16 @@ pub record Worked : Type 0 where
   pub p9_path : operand_of p9 2 ≡ path_then []
   pub p9_name : operand_of p9 5 ≡ name
   pub p9_token : operand_of p9 6 ≡ []
-  pub p9_fine : check_of p9 1 ≡ Fine
-  pub p9_no_enter : check_of p9 6 ≡ Refused (refusal NO_OPERAND 6)
-  pub p9_end : check_of p9 13 ≡ Refused (refusal NO_OPERAND 13)
+  pub p9_fine : check_of p9 1 ≡ Ok tt
+  pub p9_no_enter : check_of p9 6 ≡ Err (refusal NO_OPERAND 6)
+  pub p9_end : check_of p9 13 ≡ Err (refusal NO_OPERAND 13)
   -- the split that ends in a dot leaves the inner field alone
   pub p10_all : operand_of p10 0 ≡ p10
   pub p10_inner : operand_of p10 1 ≡ enter FIELD_EXPR ∷ path_then (dot ∷ dot_split ∷ [])
   pub p10_name : operand_of p10 13 ≡ name
   -- what is no step counts nothing
-  pub unmatched : check_of unsound 1 ≡ Refused (refusal NO_OPERAND 1)
-  pub no_node : check_of unsound 2 ≡ Refused (refusal NO_OPERAND 2)
+  pub unmatched : check_of unsound 1 ≡ Err (refusal NO_OPERAND 1)
+  pub no_node : check_of unsound 2 ≡ Err (refusal NO_OPERAND 2)
   pub over_no_step : operand_of unsound 3 ≡ enter NAME_REF ∷ 7 ∷ LEAVE ∷ []
 
 pub worked : Worked

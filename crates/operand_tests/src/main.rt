@@ -3,57 +3,25 @@
 // What must be printed is worked out by hand from document 02, L4, and stands in `stdout`.
 #![tactic(auto)]
 
-use input::{Checked, Refusal};
 use std::io;
-
-fn number(rt: &impl Print, n: u64) -> io::Result<()> {
-    rt.print(n)
-}
-
-fn show_refused(rt: &impl Print, r: Refusal) -> io::Result<()> {
-    rt.write_all(b" refused ")?;
-    number(rt, r.number as u64)?;
-    rt.write_all(b" at ")?;
-    number(rt, r.place as u64)
-}
-
-fn step_at(steps: &[u32], at: usize) -> u32 {
-    if at < steps.len() { steps[at] } else { 0 }
-}
-
-fn show_step(rt: &impl Print, step: u32) -> io::Result<()> {
-    rt.write_all(b" ")?;
-    number(rt, step as u64)
-}
-
-fn show_steps(rt: &impl Print, steps: &[u32]) -> io::Result<()> {
-    let mut i: usize = 0;
-    while i < steps.len() {
-        show_step(rt, step_at(steps, i))?;
-        i = i + 1;
-    }
-    Ok(())
-}
 
 // The operand is shown whether it is refused or not: then it is empty.
 fn show(rt: &impl Print, steps: &[u32], at: usize) -> io::Result<()> {
-    number(rt, at as u64)?;
-    rt.write_all(b":")?;
-    match operand::check_operand(steps, at) {
-        Checked::Fine => {}
-        Checked::Refused(r) => show_refused(rt, r)?,
+    print!(rt; "{at}:")?;
+    if let Err(r) = operand::check_operand(steps, at) {
+        print!(rt; " refused {} at {}", r.number, r.place)?;
     }
-    show_steps(rt, operand::operand(steps, at))?;
-    rt.write_all(b"\n")
+    for step in operand::operand(steps, at) {
+        print!(rt; " {step}")?;
+    }
+    println!(rt; "")
 }
 
 fn show_all(rt: &impl Print, steps: &[u32]) -> io::Result<()> {
-    let mut at: usize = 0;
-    while at < steps.len() {
+    for at in 0..=steps.len() {
         show(rt, steps, at)?;
-        at = at + 1;
     }
-    show(rt, steps, at)
+    Ok(())
 }
 
 // P3, `1 + 2 * 3`: a sum of a literal and a product.

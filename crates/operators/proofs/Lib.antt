@@ -1,1 +1,2 @@
 pub mod Strengths
+pub mod Stands

@@ -6,7 +6,7 @@ use Rattle.base.proofs.Cases.{whether_by, bound_by}
 use Rattle.input.specs.SyntaxKind.{PIPE2, PIPEEQ, PIPE, SHREQ, SHR, GTEQ, R_ANGLE, SHLEQ, SHL, LTEQ, L_ANGLE, AMP2, AMPEQ, AMP, EQ2, EOF, EQ, DOT2EQ, DOT2, NEQ, PLUSEQ, PLUS, CARETEQ, CARET, PERCENTEQ, PERCENT, SLASHEQ, SLASH, STAREQ, STAR, MINUSEQ, MINUS, AS_KW}
 use Rattle.input.specs.Input.{Tokens}
 use Rattle.operators.specs.declared.Op.{Op}
-use Rattle.operators.specs.Strength.{strength_of, side_of, left_op, assign_op, or_op, pipe_op, r_angle_op, l_angle_op, amp_op, eq_op, dot_op, bang_op, arith_op, op_of, current_op}
+use Rattle.operators.specs.Strength.{strength_of, side_of, left_op, assign_op, or_op, doubled_op, angle_op, pipe_op, r_angle_op, l_angle_op, amp_op, eq_op, dot_op, bang_op, arith_op, op_of, current_op}
 
 -- strength and side as listed for the kind
 abbrev pub Listed : Op → Type 0
@@ -148,21 +148,27 @@ as_kw_listed : Listed (left_op AS_KW 12)
 unfolding strength_of side_of whether
 as_kw_listed = (refl, refl)
 
+doubled_listed_at : (ts : Tokens) (at twice twice_strength assigned kind strength : ℕ) → Listed (left_op twice twice_strength) → Listed (assign_op assigned) → Listed (left_op kind strength) → Listed (doubled_op ts at twice twice_strength assigned kind strength)
+doubled_listed_at ts at twice twice_strength assigned kind strength f g h = or_listed ts at _ _ f (or_listed ts at _ _ g h)
+
+angle_listed_at : (ts : Tokens) (at assigned shift or_equal kind : ℕ) → Listed (assign_op assigned) → Listed (left_op shift 9) → Listed (left_op or_equal 5) → Listed (left_op kind 5) → Listed (angle_op ts at assigned shift or_equal kind)
+angle_listed_at ts at assigned shift or_equal kind e f g h = or_listed ts at _ _ e (or_listed ts at _ _ f (or_listed ts at _ _ g h))
+
 pipeop_listed_at : (ts : Tokens) (at : ℕ) → Listed (pipe_op ts at)
 unfolding pipe_op
-pipeop_listed_at ts at = or_listed ts at _ _ pipe2_listed (or_listed ts at _ _ pipeeq_listed (pipe_listed))
-
-rangleop_listed_at : (ts : Tokens) (at : ℕ) → Listed (r_angle_op ts at)
-unfolding r_angle_op
-rangleop_listed_at ts at = or_listed ts at _ _ shreq_listed (or_listed ts at _ _ shr_listed (or_listed ts at _ _ gteq_listed (r_angle_listed)))
-
-langleop_listed_at : (ts : Tokens) (at : ℕ) → Listed (l_angle_op ts at)
-unfolding l_angle_op
-langleop_listed_at ts at = or_listed ts at _ _ shleq_listed (or_listed ts at _ _ shl_listed (or_listed ts at _ _ lteq_listed (l_angle_listed)))
+pipeop_listed_at ts at = doubled_listed_at ts at _ _ _ _ _ pipe2_listed pipeeq_listed pipe_listed
 
 ampop_listed_at : (ts : Tokens) (at : ℕ) → Listed (amp_op ts at)
 unfolding amp_op
-ampop_listed_at ts at = or_listed ts at _ _ amp2_listed (or_listed ts at _ _ ampeq_listed (amp_listed))
+ampop_listed_at ts at = doubled_listed_at ts at _ _ _ _ _ amp2_listed ampeq_listed amp_listed
+
+rangleop_listed_at : (ts : Tokens) (at : ℕ) → Listed (r_angle_op ts at)
+unfolding r_angle_op
+rangleop_listed_at ts at = angle_listed_at ts at _ _ _ _ shreq_listed shr_listed gteq_listed r_angle_listed
+
+langleop_listed_at : (ts : Tokens) (at : ℕ) → Listed (l_angle_op ts at)
+unfolding l_angle_op
+langleop_listed_at ts at = angle_listed_at ts at _ _ _ _ shleq_listed shl_listed lteq_listed l_angle_listed
 
 eqop_listed_at : (ts : Tokens) (at : ℕ) → Listed (eq_op ts at)
 unfolding eq_op

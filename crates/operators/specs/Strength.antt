@@ -52,17 +52,31 @@ unfoldable pub or_op : Tokens → ℕ → Op → (Unit {0} → Op) → Op
 or_op ts at op other = whether (present ts at op.kind) (λ _. op) other
 
 -- "The strength and side are decided from the raw token at hand, longest glued form first"
+-- `+ - * / % ^`, each with an assignment; "`->` reads as `-`"
+unfoldable pub arith_op : Tokens → ℕ → ℕ → ℕ → ℕ → Op
+arith_op ts at assigned kind strength = or_op ts at (assign_op assigned) λ _. left_op kind strength
+
+-- `|` or `&`: doubled, assigned, or alone
+abbrev pub doubled_op : Tokens → ℕ → ℕ → ℕ → ℕ → ℕ → ℕ → Op
+doubled_op ts at twice twice_strength assigned kind strength =
+    or_op ts at (left_op twice twice_strength) λ _. or_op ts at (assign_op assigned) λ _. left_op kind strength
+
 unfoldable pub pipe_op : Tokens → ℕ → Op
-pipe_op ts at = or_op ts at (left_op PIPE2 3) λ _. or_op ts at (assign_op PIPEEQ) λ _. left_op PIPE 6
-
-unfoldable pub r_angle_op : Tokens → ℕ → Op
-r_angle_op ts at = or_op ts at (assign_op SHREQ) λ _. or_op ts at (left_op SHR 9) λ _. or_op ts at (left_op GTEQ 5) λ _. left_op R_ANGLE 5
-
-unfoldable pub l_angle_op : Tokens → ℕ → Op
-l_angle_op ts at = or_op ts at (assign_op SHLEQ) λ _. or_op ts at (left_op SHL 9) λ _. or_op ts at (left_op LTEQ 5) λ _. left_op L_ANGLE 5
+pipe_op ts at = doubled_op ts at PIPE2 3 PIPEEQ PIPE 6
 
 unfoldable pub amp_op : Tokens → ℕ → Op
-amp_op ts at = or_op ts at (left_op AMP2 4) λ _. or_op ts at (assign_op AMPEQ) λ _. left_op AMP 8
+amp_op ts at = doubled_op ts at AMP2 4 AMPEQ AMP 8
+
+-- `<` or `>`: a shift assigned, a shift, a comparison with equality, or alone
+abbrev pub angle_op : Tokens → ℕ → ℕ → ℕ → ℕ → ℕ → Op
+angle_op ts at assigned shift or_equal kind =
+    or_op ts at (assign_op assigned) λ _. or_op ts at (left_op shift 9) λ _. or_op ts at (left_op or_equal 5) λ _. left_op kind 5
+
+unfoldable pub r_angle_op : Tokens → ℕ → Op
+r_angle_op ts at = angle_op ts at SHREQ SHR GTEQ R_ANGLE
+
+unfoldable pub l_angle_op : Tokens → ℕ → Op
+l_angle_op ts at = angle_op ts at SHLEQ SHL LTEQ L_ANGLE
 
 -- "`=>` is no operator"
 unfoldable pub eq_op : Tokens → ℕ → Op
@@ -74,10 +88,6 @@ dot_op ts at = or_op ts at (left_op DOT2EQ 2) λ _. or_op ts at (left_op DOT2 2)
 
 unfoldable pub bang_op : Tokens → ℕ → Op
 bang_op ts at = or_op ts at (left_op NEQ 5) λ _. not_an_op
-
--- `+ - * / % ^`, each with an assignment; "`->` reads as `-`"
-unfoldable pub arith_op : Tokens → ℕ → ℕ → ℕ → ℕ → Op
-arith_op ts at assigned kind strength = or_op ts at (assign_op assigned) λ _. left_op kind strength
 
 unfoldable pub op_of : Tokens → ℕ → ℕ → Op
 op_of ts at kind =

@@ -1,4 +1,6 @@
 // Sets of raw kinds.
+#![tactic(auto, using(base::proofs::Laws::tests), unfolding(crate::specs::TokenSet::is_first, crate::specs::TokenSet::is_closing, crate::specs::TokenSet::ends_arguments, crate::specs::TokenSet::is_prefix, crate::specs::TokenSet::is_field_name, crate::specs::TokenSet::outside_atom, crate::specs::TokenSet::outside_type))]
+
 ghost use Rattle.std.specs.Prelude.{◌≡◌};
 ghost use Rattle.operators.specs.TokenSet.{is_first, is_closing, ends_arguments, is_prefix, is_field_name, outside_atom, outside_type};
 
@@ -11,95 +13,66 @@ use input::syntax_kind::{
 pub fn is_first(kind: u8) -> bool
     ensures { result ≡ is_first kind }
 {
-    match kind {
-        IDENT => true,
-        INT_NUMBER => true,
-        FLOAT_NUMBER => true,
-        STRING => true,
-        TRUE_KW => true,
-        FALSE_KW => true,
-        L_PAREN => true,
-        L_BRACK => true,
-        COLON => true,
-        AMP => true,
-        PIPE => true,
-        STAR => true,
-        BANG => true,
-        DOT => true,
-        MINUS => true,
-        L_ANGLE => true,
-        _ => false,
-    }
+    matches!(
+        kind,
+        IDENT
+            | INT_NUMBER
+            | FLOAT_NUMBER
+            | STRING
+            | TRUE_KW
+            | FALSE_KW
+            | L_PAREN
+            | L_BRACK
+            | COLON
+            | AMP
+            | PIPE
+            | STAR
+            | BANG
+            | DOT
+            | MINUS
+            | L_ANGLE
+    )
 }
 
 // Where error 1 takes nothing.
 pub fn is_closing(kind: u8) -> bool
     ensures { result ≡ is_closing kind }
 {
-    match kind {
-        R_PAREN => true,
-        R_BRACK => true,
-        _ => false,
-    }
+    matches!(kind, R_PAREN | R_BRACK)
 }
 
 // Where no argument is read.
 pub fn ends_arguments(kind: u8) -> bool
     ensures { result ≡ ends_arguments kind }
 {
-    match kind {
-        R_PAREN => true,
-        EOF => true,
-        _ => false,
-    }
+    matches!(kind, R_PAREN | EOF)
 }
 
 pub fn is_prefix(kind: u8) -> bool
     ensures { result ≡ is_prefix kind }
 {
-    match kind {
-        STAR => true,
-        BANG => true,
-        MINUS => true,
-        _ => false,
-    }
+    matches!(kind, STAR | BANG | MINUS)
 }
 
 pub fn is_field_name(kind: u8) -> bool
     ensures { result ≡ is_field_name kind }
 {
-    match kind {
-        IDENT => true,
-        INT_NUMBER => true,
-        _ => false,
-    }
+    matches!(kind, IDENT | INT_NUMBER)
 }
 
 // Atoms that the cut leaves out.
 pub fn outside_atom(kind: u8) -> bool
     ensures { result ≡ outside_atom kind }
 {
-    match kind {
-        PIPE => true,
-        L_ANGLE => true,
-        COLON => true,
-        L_BRACK => true,
-        _ => false,
-    }
+    matches!(kind, PIPE | L_ANGLE | COLON | L_BRACK)
 }
 
 // Types that the cut leaves out.
 pub fn outside_type(kind: u8) -> bool
     ensures { result ≡ outside_type kind }
 {
-    match kind {
-        AMP => true,
-        L_PAREN => true,
-        L_BRACK => true,
-        STAR => true,
-        BANG => true,
-        L_ANGLE => true,
-        COLON => true,
-        _ => false,
-    }
+    matches!(
+        kind,
+        AMP | L_PAREN | L_BRACK | STAR | BANG | L_ANGLE | COLON
+    )
 }

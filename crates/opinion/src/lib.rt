@@ -4,7 +4,7 @@
 use input::Refusal;
 
 // What an entry of a step list is.
-#[derive(Clone, Copy)]
+#[derive(Clone, Copy, Debug, PartialEq, Eq)]
 pub enum Step {
     Enter(u8),
     Token(u8),
@@ -16,7 +16,7 @@ pub enum Step {
 }
 
 // What a node holds: a node with its strength, a token, a split.
-#[derive(Clone, Copy)]
+#[derive(Clone, Copy, Debug, PartialEq, Eq)]
 pub enum Child {
     Node(usize, usize),
     Token(u8),
@@ -24,7 +24,7 @@ pub enum Child {
 }
 
 // What is kept of an open node: where it was entered, which node it is, how far its children have the shape, and a strength.
-#[derive(Clone, Copy)]
+#[derive(Clone, Copy, Debug, PartialEq, Eq)]
 pub struct Frame {
     pub at: usize,
     pub node: usize,
@@ -33,14 +33,15 @@ pub struct Frame {
 }
 
 // The number of a fault and the index at which it stands; 0 where there is none.
-#[derive(Clone, Copy)]
+// The number stays, and 0 for none: first_fault of specs/Faults.antt is one of these, and what specs/First.antt states speaks of fault (suc f) i and of no_fault.
+#[derive(Clone, Copy, Debug, PartialEq, Eq)]
 pub struct Fault {
     pub number: u8,
     pub at: usize,
 }
 
 // How far the steps are checked: raw tokens taken, nodes open, whether a root was entered, the first fault that is known.
-#[derive(Clone, Copy)]
+#[derive(Clone, Copy, Debug, PartialEq, Eq)]
 pub struct Walk {
     pub pos: usize,
     pub open: usize,
@@ -48,10 +49,5 @@ pub struct Walk {
     pub best: Fault,
 }
 
-// What the checker says.
-#[derive(Clone, Copy)]
-pub enum Verdict {
-    Accepted,
-    Faulty(Fault),
-    Refused(Refusal),
-}
+// What the checker says: accepted where there is no fault, or else the first; or that what is lent is refused.
+pub type Verdict = Result<Option<Fault>, Refusal>;

@@ -1,5 +1,6 @@
 -- What callers of the machine prove their own programs with: one law for each answer of each call, under `run`, backward, for `search steps`. A law reads: the call gave x and left e; of x it is known which answer it is; then what is to be shown of the whole program is to be shown of what follows.
 -- Besides: a choice and a name under `run`, one program after another, and where a loop of `turns` stands. Each is one step of `run`; sequence is an induction on the program. Assumes nothing.
+use Rattle.std.proofs.Common.{Ok, Err, Option, Some, None}
 use mathlib.Core.Path.{◌≡◌, refl, sym, ap, ◌∙◌}
 use mathlib.Core.List.{List}
 use mathlib.Core.Bool.{Bool, true, false}
@@ -11,20 +12,10 @@ use Rattle.base.specs.Base.{whether, bound, Next, again, done, on_next}
 use Rattle.input.specs.Input.{Tokens, refusal}
 use Rattle.input.specs.declared.Refusal.{Refusal}
 use Rattle.event.specs.declared.State.{State}
-use Rattle.parser.specs.Calls.{start_of, complete_of, abandon_of, precede_of, extend_of, eat_of, bump_any_of, error_of, split_of}
-use Rattle.parser.specs.Prog.{Prog, give, refuse, look, start, complete, abandon, precede, extend, eat, bump_any, error, split, then, turns, Reply, fine, bad, Ran, run, on_opened, on_closed, on_moved, on_taken, on_parted}
+use Rattle.parser.specs.Calls.{start_of, complete_of, abandon_of, precede_of, extend_of, eat_of, bump_any_of, error_of, split_of, Opened, Closed, Moved, Taken, Parted}
+use Rattle.parser.specs.Prog.{Prog, give, refuse, look, start, complete, abandon, precede, extend, eat, bump_any, error, split, then, turns, Reply, fine, bad, Perhaps, some, none, Ran, run, on_opened, on_closed, on_moved, on_taken, on_parted}
 use Rattle.parser.specs.declared.Marker.{Marker}
 use Rattle.parser.specs.declared.CompletedMarker.{CompletedMarker}
-use Rattle.parser.specs.declared.Opened.{Opened}
-use Rattle.parser.specs.declared.Opened.TheVariants as opened
-use Rattle.parser.specs.declared.Closed.{Closed}
-use Rattle.parser.specs.declared.Closed.TheVariants as closed
-use Rattle.parser.specs.declared.Moved.{Moved}
-use Rattle.parser.specs.declared.Moved.TheVariants as moved
-use Rattle.parser.specs.declared.Taken.{Taken}
-use Rattle.parser.specs.declared.Taken.TheVariants as taken
-use Rattle.parser.specs.declared.Parted.{Parted}
-use Rattle.parser.specs.declared.Parted.TheVariants as parted
 
 -- what follows a reply
 unfoldable pub on_reply : {A B : Type 0} → Ran A → (State → A → List ℕ → Ran B) → Ran B
@@ -34,30 +25,30 @@ on_reply r k = elim r.0 [ fine s a ↦ k s a r.1 | bad n ↦ (bad n, r.1) ]
 module _ {A B : Type 0} (g : Ran A → Ran B) (b : (r : Refusal) (e : List ℕ) → (bad r, e) ≡ g (bad r, e)) where
   opened_same : (x : Opened) (e : List ℕ) (k0 : State → Marker → List ℕ → Ran B) (j0 : State → Marker → List ℕ → Ran A) → ((s1 : State) (o : Marker) (e : List ℕ) → k0 s1 o e ≡ g (j0 s1 o e)) → on_opened (x, e) k0 (λ r e. (bad r, e)) ≡ g (on_opened (x, e) j0 (λ r e. (bad r, e)))
   unfolding on_opened
-  opened_same (opened.Open s1 o) e k0 j0 h0 = h0 s1 o e
-  opened_same (opened.Refused r) e k0 j0 h0 = b r e
+  opened_same (Ok (s1, o)) e k0 j0 h0 = h0 s1 o e
+  opened_same (Err r) e k0 j0 h0 = b r e
 
   closed_same : (x : Closed) (e : List ℕ) (k0 : State → CompletedMarker → List ℕ → Ran B) (j0 : State → CompletedMarker → List ℕ → Ran A) → ((s1 : State) (m : CompletedMarker) (e : List ℕ) → k0 s1 m e ≡ g (j0 s1 m e)) → on_closed (x, e) k0 (λ r e. (bad r, e)) ≡ g (on_closed (x, e) j0 (λ r e. (bad r, e)))
   unfolding on_closed
-  closed_same (closed.Done s1 m) e k0 j0 h0 = h0 s1 m e
-  closed_same (closed.Refused r) e k0 j0 h0 = b r e
+  closed_same (Ok (s1, m)) e k0 j0 h0 = h0 s1 m e
+  closed_same (Err r) e k0 j0 h0 = b r e
 
   moved_same : (x : Moved) (e : List ℕ) (k0 : State → List ℕ → Ran B) (j0 : State → List ℕ → Ran A) → ((s1 : State) (e : List ℕ) → k0 s1 e ≡ g (j0 s1 e)) → on_moved (x, e) k0 (λ r e. (bad r, e)) ≡ g (on_moved (x, e) j0 (λ r e. (bad r, e)))
   unfolding on_moved
-  moved_same (moved.On s1) e k0 j0 h0 = h0 s1 e
-  moved_same (moved.Refused r) e k0 j0 h0 = b r e
+  moved_same (Ok s1) e k0 j0 h0 = h0 s1 e
+  moved_same (Err r) e k0 j0 h0 = b r e
 
   taken_same : (x : Taken) (e : List ℕ) (k0 : State → List ℕ → Ran B) (k1 : List ℕ → Ran B) (j0 : State → List ℕ → Ran A) (j1 : List ℕ → Ran A) → ((s1 : State) (e : List ℕ) → k0 s1 e ≡ g (j0 s1 e)) → ((e : List ℕ) → k1 e ≡ g (j1 e)) → on_taken (x, e) k0 k1 (λ r e. (bad r, e)) ≡ g (on_taken (x, e) j0 j1 (λ r e. (bad r, e)))
   unfolding on_taken
-  taken_same (taken.Took s1) e k0 k1 j0 j1 h0 h1 = h0 s1 e
-  taken_same taken.No e k0 k1 j0 j1 h0 h1 = h1 e
-  taken_same (taken.Refused r) e k0 k1 j0 j1 h0 h1 = b r e
+  taken_same (Ok (Some s1)) e k0 k1 j0 j1 h0 h1 = h0 s1 e
+  taken_same (Ok None) e k0 k1 j0 j1 h0 h1 = h1 e
+  taken_same (Err r) e k0 k1 j0 j1 h0 h1 = b r e
 
   parted_same : (x : Parted) (e : List ℕ) (k0 : State → CompletedMarker → List ℕ → Ran B) (k1 : List ℕ → Ran B) (j0 : State → CompletedMarker → List ℕ → Ran A) (j1 : List ℕ → Ran A) → ((s1 : State) (m : CompletedMarker) (e : List ℕ) → k0 s1 m e ≡ g (j0 s1 m e)) → ((e : List ℕ) → k1 e ≡ g (j1 e)) → on_parted (x, e) k0 k1 (λ r e. (bad r, e)) ≡ g (on_parted (x, e) j0 j1 (λ r e. (bad r, e)))
   unfolding on_parted
-  parted_same (parted.Split s1 m) e k0 k1 j0 j1 h0 h1 = h0 s1 m e
-  parted_same parted.No e k0 k1 j0 j1 h0 h1 = h1 e
-  parted_same (parted.Refused r) e k0 k1 j0 j1 h0 h1 = b r e
+  parted_same (Ok (Some (s1, m))) e k0 k1 j0 j1 h0 h1 = h0 s1 m e
+  parted_same (Ok None) e k0 k1 j0 j1 h0 h1 = h1 e
+  parted_same (Err r) e k0 k1 j0 j1 h0 h1 = b r e
 
 -- one program after another runs one after another
 pub run_then : {A B : Type 0} (ts : Tokens) (p : Prog A) (k : A → Prog B) (s : State) (ev : List ℕ) → run ts (then p k) s ev ≡ on_reply (run ts p s ev) (λ s1 a e. run ts (k a) s1 e)
@@ -100,95 +91,113 @@ via {e = e} p q f = ap (λ z. f (z, e)) (sym q) ∙ ap f p
 
 module _ {A : Type 0} {out : Ran A} (ts : Tokens) (s : State) (ev : List ℕ) where
   module _ {x : Opened} {e : List ℕ} (f : Marker → Prog A) where
-    pub start_open : {s1 : State} {o : Marker} → (x, e) ≡ start_of s ev → x ≡ opened.Open s1 o → out ≡ run ts (f o) s1 e → out ≡ run ts (start f) s ev
+    pub start_open : {s1 : State} {o : Marker} → (x, e) ≡ start_of s ev → x ≡ Ok (s1, o) → out ≡ run ts (f o) s1 e → out ≡ run ts (start f) s ev
     unfolding run on_opened
     start_open a b h = h ∙ via a b (λ z. on_opened z (λ s1 o e. run ts (f o) s1 e) (λ r e. (bad r, e)))
 
-    pub start_refused : {r : Refusal} → (x, e) ≡ start_of s ev → x ≡ opened.Refused r → out ≡ (bad r, e) → out ≡ run ts (start f) s ev
+    pub start_refused : {r : Refusal} → (x, e) ≡ start_of s ev → x ≡ Err r → out ≡ (bad r, e) → out ≡ run ts (start f) s ev
     unfolding run on_opened
     start_refused a b h = h ∙ via a b (λ z. on_opened z (λ s1 o e. run ts (f o) s1 e) (λ r e. (bad r, e)))
 
   module _ {x : Closed} {e : List ℕ} (o : Marker) (node : ℕ) (f : CompletedMarker → Prog A) where
-    pub complete_done : {s1 : State} {m : CompletedMarker} → (x, e) ≡ complete_of s o node ev → x ≡ closed.Done s1 m → out ≡ run ts (f m) s1 e → out ≡ run ts (complete o node f) s ev
+    pub complete_done : {s1 : State} {m : CompletedMarker} → (x, e) ≡ complete_of s o node ev → x ≡ Ok (s1, m) → out ≡ run ts (f m) s1 e → out ≡ run ts (complete o node f) s ev
     unfolding run on_closed
     complete_done a b h = h ∙ via a b (λ z. on_closed z (λ s1 m e. run ts (f m) s1 e) (λ r e. (bad r, e)))
 
-    pub complete_refused : {r : Refusal} → (x, e) ≡ complete_of s o node ev → x ≡ closed.Refused r → out ≡ (bad r, e) → out ≡ run ts (complete o node f) s ev
+    pub complete_refused : {r : Refusal} → (x, e) ≡ complete_of s o node ev → x ≡ Err r → out ≡ (bad r, e) → out ≡ run ts (complete o node f) s ev
     unfolding run on_closed
     complete_refused a b h = h ∙ via a b (λ z. on_closed z (λ s1 m e. run ts (f m) s1 e) (λ r e. (bad r, e)))
 
   module _ {x : Moved} {e : List ℕ} (o : Marker) (p : Prog A) where
-    pub abandon_on : {s1 : State} → (x, e) ≡ abandon_of s o ev → x ≡ moved.On s1 → out ≡ run ts p s1 e → out ≡ run ts (abandon o p) s ev
+    pub abandon_on : {s1 : State} → (x, e) ≡ abandon_of s o ev → x ≡ Ok s1 → out ≡ run ts p s1 e → out ≡ run ts (abandon o p) s ev
     unfolding run on_moved
     abandon_on a b h = h ∙ via a b (λ z. on_moved z (λ s1 e. run ts (p) s1 e) (λ r e. (bad r, e)))
 
-    pub abandon_refused : {r : Refusal} → (x, e) ≡ abandon_of s o ev → x ≡ moved.Refused r → out ≡ (bad r, e) → out ≡ run ts (abandon o p) s ev
+    pub abandon_refused : {r : Refusal} → (x, e) ≡ abandon_of s o ev → x ≡ Err r → out ≡ (bad r, e) → out ≡ run ts (abandon o p) s ev
     unfolding run on_moved
     abandon_refused a b h = h ∙ via a b (λ z. on_moved z (λ s1 e. run ts (p) s1 e) (λ r e. (bad r, e)))
 
   module _ {x : Opened} {e : List ℕ} (c : CompletedMarker) (f : Marker → Prog A) where
-    pub precede_open : {s1 : State} {o : Marker} → (x, e) ≡ precede_of s c ev → x ≡ opened.Open s1 o → out ≡ run ts (f o) s1 e → out ≡ run ts (precede c f) s ev
+    pub precede_open : {s1 : State} {o : Marker} → (x, e) ≡ precede_of s c ev → x ≡ Ok (s1, o) → out ≡ run ts (f o) s1 e → out ≡ run ts (precede c f) s ev
     unfolding run on_opened
     precede_open a b h = h ∙ via a b (λ z. on_opened z (λ s1 o e. run ts (f o) s1 e) (λ r e. (bad r, e)))
 
-    pub precede_refused : {r : Refusal} → (x, e) ≡ precede_of s c ev → x ≡ opened.Refused r → out ≡ (bad r, e) → out ≡ run ts (precede c f) s ev
+    pub precede_refused : {r : Refusal} → (x, e) ≡ precede_of s c ev → x ≡ Err r → out ≡ (bad r, e) → out ≡ run ts (precede c f) s ev
     unfolding run on_opened
     precede_refused a b h = h ∙ via a b (λ z. on_opened z (λ s1 o e. run ts (f o) s1 e) (λ r e. (bad r, e)))
 
   module _ {x : Closed} {e : List ℕ} (c : CompletedMarker) (o : Marker) (f : CompletedMarker → Prog A) where
-    pub extend_done : {s1 : State} {m : CompletedMarker} → (x, e) ≡ extend_of s c o ev → x ≡ closed.Done s1 m → out ≡ run ts (f m) s1 e → out ≡ run ts (extend c o f) s ev
+    pub extend_done : {s1 : State} {m : CompletedMarker} → (x, e) ≡ extend_of s c o ev → x ≡ Ok (s1, m) → out ≡ run ts (f m) s1 e → out ≡ run ts (extend c o f) s ev
     unfolding run on_closed
     extend_done a b h = h ∙ via a b (λ z. on_closed z (λ s1 m e. run ts (f m) s1 e) (λ r e. (bad r, e)))
 
-    pub extend_refused : {r : Refusal} → (x, e) ≡ extend_of s c o ev → x ≡ closed.Refused r → out ≡ (bad r, e) → out ≡ run ts (extend c o f) s ev
+    pub extend_refused : {r : Refusal} → (x, e) ≡ extend_of s c o ev → x ≡ Err r → out ≡ (bad r, e) → out ≡ run ts (extend c o f) s ev
     unfolding run on_closed
     extend_refused a b h = h ∙ via a b (λ z. on_closed z (λ s1 m e. run ts (f m) s1 e) (λ r e. (bad r, e)))
 
   module _ {x : Taken} {e : List ℕ} (kind : ℕ) (p q : Prog A) where
-    pub eat_took : {s1 : State} → (x, e) ≡ eat_of ts s kind ev → x ≡ taken.Took s1 → out ≡ run ts p s1 e → out ≡ run ts (eat kind p q) s ev
+    pub eat_took : {s1 : State} → (x, e) ≡ eat_of ts s kind ev → x ≡ Ok (Some s1) → out ≡ run ts p s1 e → out ≡ run ts (eat kind p q) s ev
     unfolding run on_taken
     eat_took a b h = h ∙ via a b (λ z. on_taken z (λ s1 e. run ts (p) s1 e) (λ e. run ts (q) s e) (λ r e. (bad r, e)))
 
-    pub eat_no : (x, e) ≡ eat_of ts s kind ev → x ≡ taken.No → out ≡ run ts q s e → out ≡ run ts (eat kind p q) s ev
+    pub eat_no : (x, e) ≡ eat_of ts s kind ev → x ≡ Ok None → out ≡ run ts q s e → out ≡ run ts (eat kind p q) s ev
     unfolding run on_taken
     eat_no a b h = h ∙ via a b (λ z. on_taken z (λ s1 e. run ts (p) s1 e) (λ e. run ts (q) s e) (λ r e. (bad r, e)))
 
-    pub eat_refused : {r : Refusal} → (x, e) ≡ eat_of ts s kind ev → x ≡ taken.Refused r → out ≡ (bad r, e) → out ≡ run ts (eat kind p q) s ev
+    pub eat_some : {o : Option State} {s1 : State} → (x, e) ≡ eat_of ts s kind ev → x ≡ Ok o → o ≡ Some s1 → out ≡ run ts p s1 e → out ≡ run ts (eat kind p q) s ev
+    eat_some a b d h = eat_took a (b ∙ ap Ok d) h
+
+    pub eat_none : {o : Option State} → (x, e) ≡ eat_of ts s kind ev → x ≡ Ok o → o ≡ None → out ≡ run ts q s e → out ≡ run ts (eat kind p q) s ev
+    eat_none a b d h = eat_no a (b ∙ ap Ok d) h
+
+    pub eat_refused : {r : Refusal} → (x, e) ≡ eat_of ts s kind ev → x ≡ Err r → out ≡ (bad r, e) → out ≡ run ts (eat kind p q) s ev
     unfolding run on_taken
     eat_refused a b h = h ∙ via a b (λ z. on_taken z (λ s1 e. run ts (p) s1 e) (λ e. run ts (q) s e) (λ r e. (bad r, e)))
 
   module _ {x : Taken} {e : List ℕ} (p q : Prog A) where
-    pub bump_took : {s1 : State} → (x, e) ≡ bump_any_of ts s ev → x ≡ taken.Took s1 → out ≡ run ts p s1 e → out ≡ run ts (bump_any p q) s ev
+    pub bump_took : {s1 : State} → (x, e) ≡ bump_any_of ts s ev → x ≡ Ok (Some s1) → out ≡ run ts p s1 e → out ≡ run ts (bump_any p q) s ev
     unfolding run on_taken
     bump_took a b h = h ∙ via a b (λ z. on_taken z (λ s1 e. run ts (p) s1 e) (λ e. run ts (q) s e) (λ r e. (bad r, e)))
 
-    pub bump_no : (x, e) ≡ bump_any_of ts s ev → x ≡ taken.No → out ≡ run ts q s e → out ≡ run ts (bump_any p q) s ev
+    pub bump_no : (x, e) ≡ bump_any_of ts s ev → x ≡ Ok None → out ≡ run ts q s e → out ≡ run ts (bump_any p q) s ev
     unfolding run on_taken
     bump_no a b h = h ∙ via a b (λ z. on_taken z (λ s1 e. run ts (p) s1 e) (λ e. run ts (q) s e) (λ r e. (bad r, e)))
 
-    pub bump_refused : {r : Refusal} → (x, e) ≡ bump_any_of ts s ev → x ≡ taken.Refused r → out ≡ (bad r, e) → out ≡ run ts (bump_any p q) s ev
+    pub bump_some : {o : Option State} {s1 : State} → (x, e) ≡ bump_any_of ts s ev → x ≡ Ok o → o ≡ Some s1 → out ≡ run ts p s1 e → out ≡ run ts (bump_any p q) s ev
+    bump_some a b d h = bump_took a (b ∙ ap Ok d) h
+
+    pub bump_none : {o : Option State} → (x, e) ≡ bump_any_of ts s ev → x ≡ Ok o → o ≡ None → out ≡ run ts q s e → out ≡ run ts (bump_any p q) s ev
+    bump_none a b d h = bump_no a (b ∙ ap Ok d) h
+
+    pub bump_refused : {r : Refusal} → (x, e) ≡ bump_any_of ts s ev → x ≡ Err r → out ≡ (bad r, e) → out ≡ run ts (bump_any p q) s ev
     unfolding run on_taken
     bump_refused a b h = h ∙ via a b (λ z. on_taken z (λ s1 e. run ts (p) s1 e) (λ e. run ts (q) s e) (λ r e. (bad r, e)))
 
   module _ {x : Moved} {e : List ℕ} (code : ℕ) (p : Prog A) where
-    pub error_on : {s1 : State} → (x, e) ≡ error_of s code ev → x ≡ moved.On s1 → out ≡ run ts p s1 e → out ≡ run ts (error code p) s ev
+    pub error_on : {s1 : State} → (x, e) ≡ error_of s code ev → x ≡ Ok s1 → out ≡ run ts p s1 e → out ≡ run ts (error code p) s ev
     unfolding run on_moved
     error_on a b h = h ∙ via a b (λ z. on_moved z (λ s1 e. run ts (p) s1 e) (λ r e. (bad r, e)))
 
-    pub error_refused : {r : Refusal} → (x, e) ≡ error_of s code ev → x ≡ moved.Refused r → out ≡ (bad r, e) → out ≡ run ts (error code p) s ev
+    pub error_refused : {r : Refusal} → (x, e) ≡ error_of s code ev → x ≡ Err r → out ≡ (bad r, e) → out ≡ run ts (error code p) s ev
     unfolding run on_moved
     error_refused a b h = h ∙ via a b (λ z. on_moved z (λ s1 e. run ts (p) s1 e) (λ r e. (bad r, e)))
 
   module _ {x : Parted} {e : List ℕ} (o : Marker) (f : CompletedMarker → Prog A) (q : Prog A) where
-    pub split_split : {s1 : State} {m : CompletedMarker} → (x, e) ≡ split_of ts s o ev → x ≡ parted.Split s1 m → out ≡ run ts (f m) s1 e → out ≡ run ts (split o f q) s ev
+    pub split_split : {s1 : State} {m : CompletedMarker} → (x, e) ≡ split_of ts s o ev → x ≡ Ok (Some (s1, m)) → out ≡ run ts (f m) s1 e → out ≡ run ts (split o f q) s ev
     unfolding run on_parted
     split_split a b h = h ∙ via a b (λ z. on_parted z (λ s1 m e. run ts (f m) s1 e) (λ e. run ts (q) s e) (λ r e. (bad r, e)))
 
-    pub split_no : (x, e) ≡ split_of ts s o ev → x ≡ parted.No → out ≡ run ts q s e → out ≡ run ts (split o f q) s ev
+    pub split_no : (x, e) ≡ split_of ts s o ev → x ≡ Ok None → out ≡ run ts q s e → out ≡ run ts (split o f q) s ev
     unfolding run on_parted
     split_no a b h = h ∙ via a b (λ z. on_parted z (λ s1 m e. run ts (f m) s1 e) (λ e. run ts (q) s e) (λ r e. (bad r, e)))
 
-    pub split_refused : {r : Refusal} → (x, e) ≡ split_of ts s o ev → x ≡ parted.Refused r → out ≡ (bad r, e) → out ≡ run ts (split o f q) s ev
+    pub split_some : {v : Option (State × CompletedMarker)} {s1 : State} {m : CompletedMarker} → (x, e) ≡ split_of ts s o ev → x ≡ Ok v → v ≡ Some (s1, m) → out ≡ run ts (f m) s1 e → out ≡ run ts (split o f q) s ev
+    split_some a b d h = split_split a (b ∙ ap Ok d) h
+
+    pub split_none : {v : Option (State × CompletedMarker)} → (x, e) ≡ split_of ts s o ev → x ≡ Ok v → v ≡ None → out ≡ run ts q s e → out ≡ run ts (split o f q) s ev
+    split_none a b d h = split_no a (b ∙ ap Ok d) h
+
+    pub split_refused : {r : Refusal} → (x, e) ≡ split_of ts s o ev → x ≡ Err r → out ≡ (bad r, e) → out ≡ run ts (split o f q) s ev
     unfolding run on_parted
     split_refused a b h = h ∙ via a b (λ z. on_parted z (λ s1 m e. run ts (f m) s1 e) (λ e. run ts (q) s e) (λ r e. (bad r, e)))
 
@@ -257,6 +266,14 @@ module _ {A B : Type 0} {out : Ran B} (ts : Tokens) (s : State) (ev : List ℕ) 
   unfolding on_reply
   then_bad r q h = h ∙ via r q (λ z. on_reply z (λ s1 a e. run ts (k a) s1 e)) ∙ sym (run_then ts p k s ev)
 
+-- the same where the reply holds what may be missing
+module _ {A B : Type 0} {out : Ran B} (ts : Tokens) (s : State) (ev : List ℕ) (p : Prog (Perhaps A)) (k : Perhaps A → Prog B) {x : Reply (Perhaps A)} {e : List ℕ} where
+  pub then_some : {s1 : State} {v : Perhaps A} {a : A} → (x, e) ≡ run ts p s ev → x ≡ fine s1 v → v ≡ some a → out ≡ run ts (k (some a)) s1 e → out ≡ run ts (then p k) s ev
+  then_some {s1} r q w h = then_fine ts s ev p k r (q ∙ ap (λ z. fine s1 z) w) h
+
+  pub then_none : {s1 : State} {v : Perhaps A} → (x, e) ≡ run ts p s ev → x ≡ fine s1 v → v ≡ none → out ≡ run ts (k none) s1 e → out ≡ run ts (then p k) s ev
+  then_none {s1} r q w h = then_fine ts s ev p k r (q ∙ ap (λ z. fine s1 z) w) h
+
 -- the same where the code's enum X stands for a reply by the view v: from these two each enum gets its own laws in a line
 module _ {X A B : Type 0} {out : Ran B} (v : X → Reply A) (ts : Tokens) (s : State) (ev : List ℕ) (p : Prog A) (k : A → Prog B) {x y : X} {e : List ℕ} where
   pub view_fine : {s1 : State} {a : A} → (v x, e) ≡ run ts p s ev → x ≡ y → v y ≡ fine s1 a → out ≡ run ts (k a) s1 e → out ≡ run ts (then p k) s ev
@@ -307,4 +324,4 @@ pub turns_again : {S A : Type 0} (ts : Tokens) (k : ℕ) (f : S → Prog (Next S
 unfolding turns on_next
 turns_again ts k f z s ev q = then_fine ts s ev (f z) _ q refl refl
 
-pub ruleset steps = (start_open, start_refused, complete_done, complete_refused, abandon_on, abandon_refused, precede_open, precede_refused, extend_done, extend_refused, eat_took, eat_no, eat_refused, bump_took, bump_no, bump_refused, error_on, error_refused, split_split, split_no, split_refused, look_is, refuse_is, give_is, run_bound, run_true, run_false, run_lt, run_ge, run_le, run_gt, run_eq, run_ne, run_lit, then_fine, then_bad)
+pub ruleset steps = (start_open, start_refused, complete_done, complete_refused, abandon_on, abandon_refused, precede_open, precede_refused, extend_done, extend_refused, eat_took, eat_no, eat_some, eat_none, eat_refused, bump_took, bump_no, bump_some, bump_none, bump_refused, error_on, error_refused, split_split, split_no, split_some, split_none, split_refused, look_is, refuse_is, give_is, run_bound, run_true, run_false, run_lt, run_ge, run_le, run_gt, run_eq, run_ne, run_lit, then_some, then_none, then_fine, then_bad)

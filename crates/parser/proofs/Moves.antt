@@ -1,5 +1,6 @@
 -- What holds of every program, whatever it is: the position never falls and stays within the tokens, the lent list keeps its length. Each call is looked at once (it stays, or it goes on by what it took; a refusal or a no changes nothing), and one induction on programs carries a fact of the calls to all of them.
 -- Besides: the principles by which a theorem goes through one answer of a call, a sequence and a loop. Assumes nothing.
+use Rattle.std.proofs.Common.{Ok, Err, Some, None}
 use mathlib.Core.Path.{◌≡◌, refl, sym, subst, ap, ◌∙◌}
 use mathlib.Core.List.{List}
 use mathlib.Core.Bool.{true}
@@ -14,79 +15,69 @@ use Rattle.input.specs.Input.{Tokens, stands, present, width_of}
 use Rattle.input.proofs.Laws.{stands_says, width_bounds, present_inside}
 use Rattle.input.specs.declared.Refusal.{Refusal}
 use Rattle.event.specs.declared.State.{State}
-use Rattle.parser.specs.Calls.{start_of, complete_of, abandon_of, precede_of, extend_of, eat_of, bump_any_of, error_of, split_dot_of, split_two_of, split_of}
+use Rattle.parser.specs.Calls.{start_of, complete_of, abandon_of, precede_of, extend_of, eat_of, bump_any_of, error_of, split_dot_of, split_two_of, split_of, Opened, Closed, Moved, Taken, Parted}
 use Rattle.parser.specs.Prog.{Prog, give, refuse, look, start, complete, abandon, precede, extend, eat, bump_any, error, split, then, turns, Reply, fine, bad, Ran, run, on_opened, on_closed, on_moved, on_taken, on_parted}
 use Rattle.parser.proofs.Laws.{on_reply, run_then}
 use Rattle.parser.specs.declared.Marker.{Marker}
 use Rattle.parser.specs.declared.CompletedMarker.{CompletedMarker}
-use Rattle.parser.specs.declared.Opened.{Opened}
-use Rattle.parser.specs.declared.Opened.TheVariants as opened
-use Rattle.parser.specs.declared.Closed.{Closed}
-use Rattle.parser.specs.declared.Closed.TheVariants as closed
-use Rattle.parser.specs.declared.Moved.{Moved}
-use Rattle.parser.specs.declared.Moved.TheVariants as moved
-use Rattle.parser.specs.declared.Taken.{Taken}
-use Rattle.parser.specs.declared.Taken.TheVariants as taken
-use Rattle.parser.specs.declared.Parted.{Parted}
-use Rattle.parser.specs.declared.Parted.TheVariants as parted
 
 -- what an answer says: G of the state and list where the call did its work, H of the list where it did not
 
 abbrev pub OpenedBy : (State → List ℕ → Type 0) → (List ℕ → Type 0) → Opened × List ℕ → Type 0
-OpenedBy G H t = elim t.0 [ opened.Open s1 o ↦ G s1 t.1 | opened.Refused r ↦ H t.1 ]
+OpenedBy G H t = elim t.0 [ Ok (s1, o) ↦ G s1 t.1 | Err r ↦ H t.1 ]
 
 abbrev pub ClosedBy : (State → List ℕ → Type 0) → (List ℕ → Type 0) → Closed × List ℕ → Type 0
-ClosedBy G H t = elim t.0 [ closed.Done s1 m ↦ G s1 t.1 | closed.Refused r ↦ H t.1 ]
+ClosedBy G H t = elim t.0 [ Ok (s1, m) ↦ G s1 t.1 | Err r ↦ H t.1 ]
 
 abbrev pub MovedBy : (State → List ℕ → Type 0) → (List ℕ → Type 0) → Moved × List ℕ → Type 0
-MovedBy G H t = elim t.0 [ moved.On s1 ↦ G s1 t.1 | moved.Refused r ↦ H t.1 ]
+MovedBy G H t = elim t.0 [ Ok s1 ↦ G s1 t.1 | Err r ↦ H t.1 ]
 
 abbrev pub TakenBy : (State → List ℕ → Type 0) → (List ℕ → Type 0) → Taken × List ℕ → Type 0
-TakenBy G H t = elim t.0 [ taken.Took s1 ↦ G s1 t.1 | taken.No ↦ H t.1 | taken.Refused r ↦ H t.1 ]
+TakenBy G H t = elim t.0 [ Ok (Some s1) ↦ G s1 t.1 | Ok None ↦ H t.1 | Err r ↦ H t.1 ]
 
 abbrev pub PartedBy : (State → List ℕ → Type 0) → (List ℕ → Type 0) → Parted × List ℕ → Type 0
-PartedBy G H t = elim t.0 [ parted.Split s1 m ↦ G s1 t.1 | parted.No ↦ H t.1 | parted.Refused r ↦ H t.1 ]
+PartedBy G H t = elim t.0 [ Ok (Some (s1, m)) ↦ G s1 t.1 | Ok None ↦ H t.1 | Err r ↦ H t.1 ]
 
 -- P holds of what follows a call where it holds of what follows each answer
 module _ {A : Type 0} (P : A → Type 0) (G : State → List ℕ → Type 0) (H : List ℕ → Type 0) where
   opened_go : (x : Opened) (e : List ℕ) (k0 : State → Marker → List ℕ → A) (k1 : Refusal → List ℕ → A) → OpenedBy G H (x, e) → ((s1 : State) (o : Marker) (e : List ℕ) → G s1 e → P (k0 s1 o e)) → ((r : Refusal) (e : List ℕ) → H e → P (k1 r e)) → P (on_opened (x, e) k0 k1)
   unfolding on_opened
-  opened_go (opened.Open s1 o) e k0 k1 q f0 f1 = f0 s1 o e q
-  opened_go (opened.Refused r) e k0 k1 q f0 f1 = f1 r e q
+  opened_go (Ok (s1, o)) e k0 k1 q f0 f1 = f0 s1 o e q
+  opened_go (Err r) e k0 k1 q f0 f1 = f1 r e q
 
   pub opened_by : (r : Opened × List ℕ) (k0 : State → Marker → List ℕ → A) (k1 : Refusal → List ℕ → A) → OpenedBy G H r → ((s1 : State) (o : Marker) (e : List ℕ) → G s1 e → P (k0 s1 o e)) → ((r : Refusal) (e : List ℕ) → H e → P (k1 r e)) → P (on_opened r k0 k1)
   opened_by r k0 k1 q f0 f1 = opened_go r.0 r.1 k0 k1 q f0 f1
 
   closed_go : (x : Closed) (e : List ℕ) (k0 : State → CompletedMarker → List ℕ → A) (k1 : Refusal → List ℕ → A) → ClosedBy G H (x, e) → ((s1 : State) (m : CompletedMarker) (e : List ℕ) → G s1 e → P (k0 s1 m e)) → ((r : Refusal) (e : List ℕ) → H e → P (k1 r e)) → P (on_closed (x, e) k0 k1)
   unfolding on_closed
-  closed_go (closed.Done s1 m) e k0 k1 q f0 f1 = f0 s1 m e q
-  closed_go (closed.Refused r) e k0 k1 q f0 f1 = f1 r e q
+  closed_go (Ok (s1, m)) e k0 k1 q f0 f1 = f0 s1 m e q
+  closed_go (Err r) e k0 k1 q f0 f1 = f1 r e q
 
   pub closed_by : (r : Closed × List ℕ) (k0 : State → CompletedMarker → List ℕ → A) (k1 : Refusal → List ℕ → A) → ClosedBy G H r → ((s1 : State) (m : CompletedMarker) (e : List ℕ) → G s1 e → P (k0 s1 m e)) → ((r : Refusal) (e : List ℕ) → H e → P (k1 r e)) → P (on_closed r k0 k1)
   closed_by r k0 k1 q f0 f1 = closed_go r.0 r.1 k0 k1 q f0 f1
 
   moved_go : (x : Moved) (e : List ℕ) (k0 : State → List ℕ → A) (k1 : Refusal → List ℕ → A) → MovedBy G H (x, e) → ((s1 : State) (e : List ℕ) → G s1 e → P (k0 s1 e)) → ((r : Refusal) (e : List ℕ) → H e → P (k1 r e)) → P (on_moved (x, e) k0 k1)
   unfolding on_moved
-  moved_go (moved.On s1) e k0 k1 q f0 f1 = f0 s1 e q
-  moved_go (moved.Refused r) e k0 k1 q f0 f1 = f1 r e q
+  moved_go (Ok s1) e k0 k1 q f0 f1 = f0 s1 e q
+  moved_go (Err r) e k0 k1 q f0 f1 = f1 r e q
 
   pub moved_by : (r : Moved × List ℕ) (k0 : State → List ℕ → A) (k1 : Refusal → List ℕ → A) → MovedBy G H r → ((s1 : State) (e : List ℕ) → G s1 e → P (k0 s1 e)) → ((r : Refusal) (e : List ℕ) → H e → P (k1 r e)) → P (on_moved r k0 k1)
   moved_by r k0 k1 q f0 f1 = moved_go r.0 r.1 k0 k1 q f0 f1
 
   taken_go : (x : Taken) (e : List ℕ) (k0 : State → List ℕ → A) (k1 : List ℕ → A) (k2 : Refusal → List ℕ → A) → TakenBy G H (x, e) → ((s1 : State) (e : List ℕ) → G s1 e → P (k0 s1 e)) → ((e : List ℕ) → H e → P (k1 e)) → ((r : Refusal) (e : List ℕ) → H e → P (k2 r e)) → P (on_taken (x, e) k0 k1 k2)
   unfolding on_taken
-  taken_go (taken.Took s1) e k0 k1 k2 q f0 f1 f2 = f0 s1 e q
-  taken_go taken.No e k0 k1 k2 q f0 f1 f2 = f1 e q
-  taken_go (taken.Refused r) e k0 k1 k2 q f0 f1 f2 = f2 r e q
+  taken_go (Ok (Some s1)) e k0 k1 k2 q f0 f1 f2 = f0 s1 e q
+  taken_go (Ok None) e k0 k1 k2 q f0 f1 f2 = f1 e q
+  taken_go (Err r) e k0 k1 k2 q f0 f1 f2 = f2 r e q
 
   pub taken_by : (r : Taken × List ℕ) (k0 : State → List ℕ → A) (k1 : List ℕ → A) (k2 : Refusal → List ℕ → A) → TakenBy G H r → ((s1 : State) (e : List ℕ) → G s1 e → P (k0 s1 e)) → ((e : List ℕ) → H e → P (k1 e)) → ((r : Refusal) (e : List ℕ) → H e → P (k2 r e)) → P (on_taken r k0 k1 k2)
   taken_by r k0 k1 k2 q f0 f1 f2 = taken_go r.0 r.1 k0 k1 k2 q f0 f1 f2
 
   parted_go : (x : Parted) (e : List ℕ) (k0 : State → CompletedMarker → List ℕ → A) (k1 : List ℕ → A) (k2 : Refusal → List ℕ → A) → PartedBy G H (x, e) → ((s1 : State) (m : CompletedMarker) (e : List ℕ) → G s1 e → P (k0 s1 m e)) → ((e : List ℕ) → H e → P (k1 e)) → ((r : Refusal) (e : List ℕ) → H e → P (k2 r e)) → P (on_parted (x, e) k0 k1 k2)
   unfolding on_parted
-  parted_go (parted.Split s1 m) e k0 k1 k2 q f0 f1 f2 = f0 s1 m e q
-  parted_go parted.No e k0 k1 k2 q f0 f1 f2 = f1 e q
-  parted_go (parted.Refused r) e k0 k1 k2 q f0 f1 f2 = f2 r e q
+  parted_go (Ok (Some (s1, m))) e k0 k1 k2 q f0 f1 f2 = f0 s1 m e q
+  parted_go (Ok None) e k0 k1 k2 q f0 f1 f2 = f1 e q
+  parted_go (Err r) e k0 k1 k2 q f0 f1 f2 = f2 r e q
 
   pub parted_by : (r : Parted × List ℕ) (k0 : State → CompletedMarker → List ℕ → A) (k1 : List ℕ → A) (k2 : Refusal → List ℕ → A) → PartedBy G H r → ((s1 : State) (m : CompletedMarker) (e : List ℕ) → G s1 e → P (k0 s1 m e)) → ((e : List ℕ) → H e → P (k1 e)) → ((r : Refusal) (e : List ℕ) → H e → P (k2 r e)) → P (on_parted r k0 k1 k2)
   parted_by r k0 k1 k2 q f0 f1 f2 = parted_go r.0 r.1 k0 k1 k2 q f0 f1 f2
@@ -195,26 +186,26 @@ module _ (ts : Tokens) (G : State → List ℕ → Type 0) (stay : (s : State) (
   same s ev e g q = subst (λ (l : List ℕ). G s l) (sym q) g
 
   opened_kept : (s : State) (ev : List ℕ) → G s ev → (x : Opened) (e : List ℕ) → OpenedBy (Stays s ev) (λ e. e ≡ ev) (x, e) → OpenedBy G (G s) (x, e)
-  opened_kept s ev g (opened.Open s1 o) e h = stay s ev s1 e h g
-  opened_kept s ev g (opened.Refused r) e h = same s ev e g h
+  opened_kept s ev g (Ok (s1, o)) e h = stay s ev s1 e h g
+  opened_kept s ev g (Err r) e h = same s ev e g h
 
   closed_kept : (s : State) (ev : List ℕ) → G s ev → (x : Closed) (e : List ℕ) → ClosedBy (Stays s ev) (λ e. e ≡ ev) (x, e) → ClosedBy G (G s) (x, e)
-  closed_kept s ev g (closed.Done s1 m) e h = stay s ev s1 e h g
-  closed_kept s ev g (closed.Refused r) e h = same s ev e g h
+  closed_kept s ev g (Ok (s1, m)) e h = stay s ev s1 e h g
+  closed_kept s ev g (Err r) e h = same s ev e g h
 
   moved_kept : (s : State) (ev : List ℕ) → G s ev → (x : Moved) (e : List ℕ) → MovedBy (Stays s ev) (λ e. e ≡ ev) (x, e) → MovedBy G (G s) (x, e)
-  moved_kept s ev g (moved.On s1) e h = stay s ev s1 e h g
-  moved_kept s ev g (moved.Refused r) e h = same s ev e g h
+  moved_kept s ev g (Ok s1) e h = stay s ev s1 e h g
+  moved_kept s ev g (Err r) e h = same s ev e g h
 
   taken_kept : (s : State) (ev : List ℕ) → G s ev → (x : Taken) (e : List ℕ) → TakenBy (Goes ts s ev) (λ e. e ≡ ev) (x, e) → TakenBy G (G s) (x, e)
-  taken_kept s ev g (taken.Took s1) e h = went s ev s1 e h g
-  taken_kept s ev g taken.No e h = same s ev e g h
-  taken_kept s ev g (taken.Refused r) e h = same s ev e g h
+  taken_kept s ev g (Ok (Some s1)) e h = went s ev s1 e h g
+  taken_kept s ev g (Ok None) e h = same s ev e g h
+  taken_kept s ev g (Err r) e h = same s ev e g h
 
   parted_kept : (s : State) (ev : List ℕ) → G s ev → (x : Parted) (e : List ℕ) → PartedBy (Goes ts s ev) (λ e. e ≡ ev) (x, e) → PartedBy G (G s) (x, e)
-  parted_kept s ev g (parted.Split s1 m) e h = went s ev s1 e h g
-  parted_kept s ev g parted.No e h = same s ev e g h
-  parted_kept s ev g (parted.Refused r) e h = same s ev e g h
+  parted_kept s ev g (Ok (Some (s1, m))) e h = went s ev s1 e h g
+  parted_kept s ev g (Ok None) e h = same s ev e g h
+  parted_kept s ev g (Err r) e h = same s ev e g h
 
   pub keeps : Keeps ts G
   keeps =
@@ -273,11 +264,11 @@ module _ {S A : Type 0} (P : Ran A → Type 0) (I : State → S → List ℕ →
 
 -- for the measure of a loop: after a taking call fewer tokens are left
 module _ (ts : Tokens) (s s1 : State) (ev e : List ℕ) where
-  pub eat_less : (kind : ℕ) {x : Taken} → (x, e) ≡ eat_of ts s kind ev → x ≡ taken.Took s1 → length ts.kinds - s1.pos.0 < length ts.kinds - s.pos.0
+  pub eat_less : (kind : ℕ) {x : Taken} → (x, e) ≡ eat_of ts s kind ev → x ≡ Ok (Some s1) → length ts.kinds - s1.pos.0 < length ts.kinds - s.pos.0
   eat_less kind p q = let z : Goes ts s ev s1 e = subst (λ (r : Taken × List ℕ). TakenBy (Goes ts s ev) (λ e. e ≡ ev) r) (sym p ∙ ap (λ (y : Taken). (y, e)) q) (eat_moves ts s kind ev) in omega arith
 
-  pub bump_less : {x : Taken} → (x, e) ≡ bump_any_of ts s ev → x ≡ taken.Took s1 → length ts.kinds - s1.pos.0 < length ts.kinds - s.pos.0
+  pub bump_less : {x : Taken} → (x, e) ≡ bump_any_of ts s ev → x ≡ Ok (Some s1) → length ts.kinds - s1.pos.0 < length ts.kinds - s.pos.0
   bump_less p q = let z : Goes ts s ev s1 e = subst (λ (r : Taken × List ℕ). TakenBy (Goes ts s ev) (λ e. e ≡ ev) r) (sym p ∙ ap (λ (y : Taken). (y, e)) q) (bump_moves ts s ev) in omega arith
 
-  pub split_less : (o : Marker) {x : Parted} {m : CompletedMarker} → (x, e) ≡ split_of ts s o ev → x ≡ parted.Split s1 m → length ts.kinds - s1.pos.0 < length ts.kinds - s.pos.0
+  pub split_less : (o : Marker) {x : Parted} {m : CompletedMarker} → (x, e) ≡ split_of ts s o ev → x ≡ Ok (Some (s1, m)) → length ts.kinds - s1.pos.0 < length ts.kinds - s.pos.0
   split_less o p q = let z : Goes ts s ev s1 e = subst (λ (r : Parted × List ℕ). PartedBy (Goes ts s ev) (λ e. e ≡ ev) r) (sym p ∙ ap (λ (y : Parted). (y, e)) q) (split_moves ts s o ev) in omega arith

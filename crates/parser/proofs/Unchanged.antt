@@ -1,12 +1,11 @@
 -- "A refused call changes nothing": of each public call, a refusal and a no leave the list as it was; an answer keeps its length, and the position stays, or goes on within the tokens.
 -- The check refuses before the work, and the work's own law is in Moves. Assumes nothing.
+use Rattle.std.proofs.Common.{Ok, Err}
 use mathlib.Core.Path.{◌≡◌, refl}
 use mathlib.Core.List.{List}
 use Prim.Native.Nat.{ℕ}
-use Rattle.input.specs.Input.{Tokens, on_checked}
+use Rattle.input.specs.Input.{Tokens, on_checked, Checked}
 use Rattle.input.specs.declared.Refusal.{Refusal}
-use Rattle.input.specs.declared.Checked.{Checked}
-use Rattle.input.specs.declared.Checked.TheVariants.{Fine, Refused}
 use Rattle.event.specs.declared.State.{State}
 use Rattle.parser.specs.Public.{calling, start_call, complete_call, abandon_call, precede_call, extend_call, eat_call, bump_any_call, error_call, split_call}
 use Rattle.parser.specs.declared.Marker.{Marker}
@@ -15,8 +14,8 @@ use Rattle.parser.proofs.Moves.{OpenedBy, ClosedBy, MovedBy, TakenBy, PartedBy, 
 
 pub checked_by : {A : Type 0} (P : A → Type 0) (x : Checked) (f : Unit {0} → A) (g : Refusal → A) → P (f tt) → ((r : Refusal) → P (g r)) → P (on_checked x f g)
 unfolding on_checked
-checked_by P Fine f g p q = p
-checked_by P (Refused r) f g p q = q r
+checked_by P (Ok _) f g p q = p
+checked_by P (Err r) f g p q = q r
 
 module _ (ts : Tokens) (s : State) (ev : List ℕ) where
   pub start_unchanged : OpenedBy (Stays s ev) (λ e. e ≡ ev) (start_call s ev)

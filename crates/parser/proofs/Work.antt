@@ -1,5 +1,6 @@
 -- What the calls' own proofs use, each as a law for `search`: a test of the code that a rule repeats, an entry that a callee computed from an entry read, a store of it, a refusal, a check of what is lent, and the room that a sum or a cast has.
 -- The first are steps of congruence, the last linear arithmetic under the list's limit. Assumes nothing.
+use Rattle.std.proofs.Common.{Ok, Err, Some}
 use mathlib.Core.Path.{◌≡◌, refl, sym, ap, ◌∙◌}
 use mathlib.Core.Bool.{Bool, true, false, not}
 use mathlib.Core.List.{List}
@@ -14,26 +15,14 @@ use borrow.Author.Tests.{not-true, not-false, ltb-true, leb-true}
 use Rattle.base.specs.Base.{whether}
 use Rattle.base.proofs.Cases.{whether_by}
 use Rattle.base.proofs.Laws.{tests, whether_true, whether_false}
-use Rattle.input.specs.Input.{Tokens, token_limit, on_checked, stands, present, width_of}
+use Rattle.input.specs.Input.{Tokens, token_limit, on_checked, stands, present, width_of, Checked}
 use Rattle.input.specs.declared.Position.{Position}
 use Rattle.input.specs.declared.Refusal.{Refusal}
-use Rattle.input.specs.declared.Checked.{Checked}
-use Rattle.input.specs.declared.Checked.TheVariants.{Fine, Refused}
 use Rattle.event.specs.Event.{node_of, is_live, is_named, event_limit, capacity_of, token_entry, named_entry, spent_entry, extended_entry, parented_entry}
 use Rattle.event.specs.declared.State.{State}
-use Rattle.parser.specs.Calls.{went, is_open, is_closed}
+use Rattle.parser.specs.Calls.{went, is_open, is_closed, Opened, Closed, Moved, Taken, Parted}
 use Rattle.parser.proofs.Moves.{stands_within, present_within}
 use Rattle.parser.specs.declared.CompletedMarker.{CompletedMarker}
-use Rattle.parser.specs.declared.Opened.{Opened}
-use Rattle.parser.specs.declared.Opened.TheVariants as opened
-use Rattle.parser.specs.declared.Closed.{Closed}
-use Rattle.parser.specs.declared.Closed.TheVariants as closed
-use Rattle.parser.specs.declared.Moved.{Moved}
-use Rattle.parser.specs.declared.Moved.TheVariants as moved
-use Rattle.parser.specs.declared.Taken.{Taken}
-use Rattle.parser.specs.declared.Taken.TheVariants as taken
-use Rattle.parser.specs.declared.Parted.{Parted}
-use Rattle.parser.specs.declared.Parted.TheVariants as parted
 
 -- an early return tests a flag x the other way round
 module _ {A : Type 0} (f g : Unit {0} → A) {out : A} {x : Bool} (b : Bool) where
@@ -74,30 +63,30 @@ leading v offset {x} p q r = p ∙ ap (λ z. parented_entry x z offset) q ∙ ap
 
 -- a check x of what is lent
 module _ {A : Type 0} {x : Checked} (check : Checked) (f : Unit {0} → A) (g : Refusal → A) {out : A} where
-  pub checked_fine : x ≡ check → x ≡ Fine → out ≡ f tt → out ≡ on_checked check f g
+  pub checked_fine : x ≡ check → x ≡ Ok tt → out ≡ f tt → out ≡ on_checked check f g
   unfolding on_checked
   checked_fine p q h = h ∙ ap (λ z. on_checked z f g) (sym q ∙ p)
 
-  pub checked_refused : {r : Refusal} → x ≡ check → x ≡ Refused r → out ≡ g r → out ≡ on_checked check f g
+  pub checked_refused : {r : Refusal} → x ≡ check → x ≡ Err r → out ≡ g r → out ≡ on_checked check f g
   unfolding on_checked
   checked_refused p q h = h ∙ ap (λ z. on_checked z f g) (sym q ∙ p)
 
 -- a refusal r that is v; an answer, and the list that was left; a list that was stored into
 module _ {r : Refusal} (v : Refusal) (e : List ℕ) where
-  pub opened_refused : r ≡ v → ◌≡◌ {A = Opened × List ℕ} (opened.Refused r, e) (opened.Refused v, e)
-  opened_refused p = ap (λ z. (opened.Refused z, e)) p
+  pub opened_refused : r ≡ v → ◌≡◌ {A = Opened × List ℕ} (Err r, e) (Err v, e)
+  opened_refused p = ap (λ z. (Err z, e)) p
 
-  pub closed_refused : r ≡ v → ◌≡◌ {A = Closed × List ℕ} (closed.Refused r, e) (closed.Refused v, e)
-  closed_refused p = ap (λ z. (closed.Refused z, e)) p
+  pub closed_refused : r ≡ v → ◌≡◌ {A = Closed × List ℕ} (Err r, e) (Err v, e)
+  closed_refused p = ap (λ z. (Err z, e)) p
 
-  pub moved_refused : r ≡ v → ◌≡◌ {A = Moved × List ℕ} (moved.Refused r, e) (moved.Refused v, e)
-  moved_refused p = ap (λ z. (moved.Refused z, e)) p
+  pub moved_refused : r ≡ v → ◌≡◌ {A = Moved × List ℕ} (Err r, e) (Err v, e)
+  moved_refused p = ap (λ z. (Err z, e)) p
 
-  pub taken_refused : r ≡ v → ◌≡◌ {A = Taken × List ℕ} (taken.Refused r, e) (taken.Refused v, e)
-  taken_refused p = ap (λ z. (taken.Refused z, e)) p
+  pub taken_refused : r ≡ v → ◌≡◌ {A = Taken × List ℕ} (Err r, e) (Err v, e)
+  taken_refused p = ap (λ z. (Err z, e)) p
 
-  pub parted_refused : r ≡ v → ◌≡◌ {A = Parted × List ℕ} (parted.Refused r, e) (parted.Refused v, e)
-  parted_refused p = ap (λ z. (parted.Refused z, e)) p
+  pub parted_refused : r ≡ v → ◌≡◌ {A = Parted × List ℕ} (Err r, e) (Err v, e)
+  parted_refused p = ap (λ z. (Err z, e)) p
 
 pub left : {A : Type 0} (a : A) {e : List ℕ} (l : List ℕ) → e ≡ l → ◌≡◌ {A = A × List ℕ} (a, e) (a, l)
 left a l p = ap (λ z. (a, z)) p
@@ -106,11 +95,11 @@ pub stored : {e1 e : List ℕ} {x : ℕ} (l : List ℕ) (i v : ℕ) → e1 ≡ s
 stored {x = x} l i v p q r = p ∙ ap (λ z. set z i x) q ∙ ap (λ z. set l i z) r
 
 -- and where the position that the code has for the next one is w more
-pub took : (s : State) {w v : ℕ} {e l : List ℕ} → w ≡ v → e ≡ l → ◌≡◌ {A = Taken × List ℕ} (taken.Took (went s w 1), e) (taken.Took (went s v 1), l)
-took s {e = e} p q = ap (λ z. (taken.Took (went s z 1), e)) p ∙ left _ _ q
+pub took : (s : State) {w v : ℕ} {e l : List ℕ} → w ≡ v → e ≡ l → ◌≡◌ {A = Taken × List ℕ} (Ok (Some (went s w 1)), e) (Ok (Some (went s v 1)), l)
+took s {e = e} p q = ap (λ z. (Ok (Some (went s z 1)), e)) p ∙ left _ _ q
 
-pub parted_at : (s : State) (k : ℕ) (c : CompletedMarker) (next : Position) {e : List ℕ} (l : List ℕ) → next.0 ≡ s.pos.0 + 1 → e ≡ l → ◌≡◌ {A = Parted × List ℕ} (parted.Split (record { pos = next; count = s.count + k }) c, e) (parted.Split (went s 1 k) c, l)
-parted_at s k c next {e = e} l p q = ap (λ z. (parted.Split (record { pos = record { 0 = z }; count = s.count + k }) c, e)) p ∙ left _ l q
+pub parted_at : (s : State) (k : ℕ) (c : CompletedMarker) (next : Position) {e : List ℕ} (l : List ℕ) → next.0 ≡ s.pos.0 + 1 → e ≡ l → ◌≡◌ {A = Parted × List ℕ} (Ok (Some (record { pos = next; count = s.count + k }, c)), e) (Ok (Some (went s 1 k, c)), l)
+parted_at s k c next {e = e} l p q = ap (λ z. (Ok (Some (record { pos = record { 0 = z }; count = s.count + k }, c)), e)) p ∙ left _ l q
 
 pub ruleset work = (tests, whether_held, whether_failed, checked_fine, checked_refused, opened_refused, closed_refused, moved_refused, taken_refused, parted_refused, left, stored)
 

@@ -1,22 +1,12 @@
 -- What a rule of the grammar does, as data: calls of the machine, one after another. A refused call ends it.
-use Rattle.std.specs.Prelude.{ℕ, zero, suc, List}
+use Rattle.std.specs.Prelude.{Result, Ok, Err, Option, Some, None, ℕ, zero, suc, List}
 use Rattle.base.specs.Base.{Next, on_next}
 use Rattle.input.specs.Input.{Tokens, refusal}
 use Rattle.input.specs.declared.Refusal.{Refusal}
 use Rattle.event.specs.declared.State.{State}
-use Rattle.parser.specs.Calls.{start_of, complete_of, abandon_of, precede_of, extend_of, eat_of, bump_any_of, error_of, split_of}
+use Rattle.parser.specs.Calls.{start_of, complete_of, abandon_of, precede_of, extend_of, eat_of, bump_any_of, error_of, split_of, Opened, Closed, Moved, Taken, Parted}
 use Rattle.parser.specs.declared.Marker.{Marker}
 use Rattle.parser.specs.declared.CompletedMarker.{CompletedMarker}
-use Rattle.parser.specs.declared.Opened.{Opened}
-use Rattle.parser.specs.declared.Opened.TheVariants as opened
-use Rattle.parser.specs.declared.Closed.{Closed}
-use Rattle.parser.specs.declared.Closed.TheVariants as closed
-use Rattle.parser.specs.declared.Moved.{Moved}
-use Rattle.parser.specs.declared.Moved.TheVariants as moved
-use Rattle.parser.specs.declared.Taken.{Taken}
-use Rattle.parser.specs.declared.Taken.TheVariants as taken
-use Rattle.parser.specs.declared.Parted.{Parted}
-use Rattle.parser.specs.declared.Parted.TheVariants as parted
 
 pub data Prog (A : Type 0) : Type 0 where
   -- an answer; a refusal by number, at a place
@@ -56,27 +46,32 @@ turns zero f s = refuse 0 0
 turns (suc k) f s = then (f s) (λ n. on_next n (λ z. turns k f z) give)
 
 -- an answer, with the state then; or a refusal
-pub data Reply (A : Type 0) : Type 0 where
-  fine : State → A → Reply A
-  bad : Refusal → Reply A
+abbrev pub Reply : Type 0 → Type 0
+Reply A = Result (State × A) Refusal
+
+pattern abbrev pub fine : {A : Type 0} → State → A → Reply A
+fine s a = Ok (s, a)
+
+pattern abbrev pub bad : {A : Type 0} → Refusal → Reply A
+bad r = Err r
 
 abbrev pub Ran : Type 0 → Type 0
 Ran A = Reply A × List ℕ
 
 unfoldable pub on_opened : {A : Type 0} → Opened × List ℕ → (State → Marker → List ℕ → A) → (Refusal → List ℕ → A) → A
-on_opened r k0 k1 = elim r.0 [ opened.Open s o ↦ k0 s o r.1 | opened.Refused n ↦ k1 n r.1 ]
+on_opened r k0 k1 = elim r.0 [ Ok (s, o) ↦ k0 s o r.1 | Err n ↦ k1 n r.1 ]
 
 unfoldable pub on_closed : {A : Type 0} → Closed × List ℕ → (State → CompletedMarker → List ℕ → A) → (Refusal → List ℕ → A) → A
-on_closed r k0 k1 = elim r.0 [ closed.Done s m ↦ k0 s m r.1 | closed.Refused n ↦ k1 n r.1 ]
+on_closed r k0 k1 = elim r.0 [ Ok (s, m) ↦ k0 s m r.1 | Err n ↦ k1 n r.1 ]
 
 unfoldable pub on_moved : {A : Type 0} → Moved × List ℕ → (State → List ℕ → A) → (Refusal → List ℕ → A) → A
-on_moved r k0 k1 = elim r.0 [ moved.On s ↦ k0 s r.1 | moved.Refused n ↦ k1 n r.1 ]
+on_moved r k0 k1 = elim r.0 [ Ok s ↦ k0 s r.1 | Err n ↦ k1 n r.1 ]
 
 unfoldable pub on_taken : {A : Type 0} → Taken × List ℕ → (State → List ℕ → A) → (List ℕ → A) → (Refusal → List ℕ → A) → A
-on_taken r k0 k1 k2 = elim r.0 [ taken.Took s ↦ k0 s r.1 | taken.No ↦ k1 r.1 | taken.Refused n ↦ k2 n r.1 ]
+on_taken r k0 k1 k2 = elim r.0 [ Ok (Some s) ↦ k0 s r.1 | Ok None ↦ k1 r.1 | Err n ↦ k2 n r.1 ]
 
 unfoldable pub on_parted : {A : Type 0} → Parted × List ℕ → (State → CompletedMarker → List ℕ → A) → (List ℕ → A) → (Refusal → List ℕ → A) → A
-on_parted r k0 k1 k2 = elim r.0 [ parted.Split s m ↦ k0 s m r.1 | parted.No ↦ k1 r.1 | parted.Refused n ↦ k2 n r.1 ]
+on_parted r k0 k1 k2 = elim r.0 [ Ok (Some (s, m)) ↦ k0 s m r.1 | Ok None ↦ k1 r.1 | Err n ↦ k2 n r.1 ]
 
 -- a program on the events, by the machine's own rules
 unfoldable pub run : {A : Type 0} → Tokens → Prog A → State → List ℕ → Ran A
@@ -94,6 +89,11 @@ run ts (error c p) s ev = on_moved (error_of s c ev) (λ s1 e. run ts p s1 e) (�
 run ts (split o f q) s ev = on_parted (split_of ts s o ev) (λ s1 m e. run ts (f m) s1 e) (λ e. run ts q s e) (λ r e. (bad r, e))
 
 -- what may be missing
-pub data Perhaps (A : Type 0) : Type 0 where
-  some : A → Perhaps A
-  none : Perhaps A
+abbrev pub Perhaps : Type 0 → Type 0
+Perhaps A = Option A
+
+pattern abbrev pub some : {A : Type 0} → A → Perhaps A
+some a = Some a
+
+pattern abbrev pub none : {A : Type 0} → Perhaps A
+none = None

@@ -1,16 +1,14 @@
 -- Worked runs of the machine, by computation: what each call leaves in a short list of events, and what it answers.
-use Rattle.std.specs.Prelude.{ℕ, ◌≡◌, refl, true, false, List, [], ◌∷◌, replicate}
+use Rattle.std.specs.Prelude.{Ok, Err, Some, None, ℕ, ◌≡◌, refl, true, false, List, [], ◌∷◌, replicate}
 use Rattle.base.specs.Base.{whether, bound}
 use Rattle.input.specs.SyntaxKind.{IDENT, INT_NUMBER, FLOAT_NUMBER, DOT, EQ, DOT2, DOT2EQ, LITERAL, PATH_EXPR, FIELD_EXPR, BIN_EXPR, EXPECTED_EXPRESSION, BAD_KIND, BAD_JOINT, BAD_LENGTH, EVENTS_FULL, UNFIT, UNSOUND}
 use Rattle.input.specs.Input.{Tokens, lent, token_limit, width_limit, stands, glued_table, row_of, is_glued, row_parts, parts_of, width_of, follow, present, is_raw, is_joint, is_kind, is_node, is_code, first_off, refusal, lengths_of, bytes_of, on_checked, ahead}
 use Rattle.event.specs.Event.{live, spent, named, entry_of, is_live, is_named, event_limit, capacity_of, in_range, fresh}
 use Rattle.event.specs.Event as event
 use Rattle.event.specs.declared.State.{State}
-use Rattle.parser.specs.Calls.{marker, completed, room_for, is_open, is_closed, is_last, start_of, complete_of, abandon_of, precede_of, extend_of, eat_of, bump_any_of, error_of, split_dot_of, split_two_of, split_of}
+use Rattle.parser.specs.Calls.{marker, completed, room_for, is_open, is_closed, is_last, start_of, complete_of, abandon_of, precede_of, extend_of, eat_of, bump_any_of, error_of, split_dot_of, split_two_of, split_of, Taken}
 use Rattle.parser.specs.Public.{range_of, looked_of, calling, eat_call}
 use Rattle.parser.specs.Prog.{Prog, give, refuse, start, complete, abandon, precede, extend, eat, bump_any, error, split, Reply, fine, bad, run, on_opened, on_closed, on_moved, on_taken, on_parted}
-use Rattle.parser.specs.declared.Taken.{Taken}
-use Rattle.parser.specs.declared.Taken.TheVariants as taken
 
 -- a program on n fresh entries, with all that it rests on opened
 unfoldable pub ran : {A : Type 0} → Tokens → Prog A → ℕ → Reply A × List ℕ
@@ -93,40 +91,40 @@ unfoldable pub taking : Tokens → State → ℕ → List ℕ → Taken × List 
 unfolding whether bound token_limit width_limit stands glued_table row_of is_glued row_parts parts_of width_of follow present is_raw is_joint is_kind first_off lengths_of bytes_of on_checked ahead event_limit capacity_of in_range room_for eat_of range_of looked_of calling eat_call
 taking ts s kind ev = eat_call ts s kind ev
 
-three : taking (lent (30 ∷ []) []) (at 2 2) 0 [] ≡ (taken.Refused (refusal BAD_LENGTH 0), [])
+three : taking (lent (30 ∷ []) []) (at 2 2) 0 [] ≡ (Err (refusal BAD_LENGTH 0), [])
 unfolding taking
 three = refl
 
-nine : taking (lent (30 ∷ []) (2 ∷ [])) (at 0 2) 0 [] ≡ (taken.Refused (refusal UNSOUND 0), [])
+nine : taking (lent (30 ∷ []) (2 ∷ [])) (at 0 2) 0 [] ≡ (Err (refusal UNSOUND 0), [])
 unfolding taking
 nine = refl
 
-nine_position : taking (lent (30 ∷ []) (2 ∷ [])) (at 2 0) 0 [] ≡ (taken.Refused (refusal UNSOUND 0), [])
+nine_position : taking (lent (30 ∷ []) (2 ∷ [])) (at 2 0) 0 [] ≡ (Err (refusal UNSOUND 0), [])
 unfolding taking
 nine_position = refl
 
-one : taking (lent (IDENT ∷ 30 ∷ []) (2 ∷ 0 ∷ [])) (at 0 0) 0 [] ≡ (taken.Refused (refusal BAD_KIND 1), [])
+one : taking (lent (IDENT ∷ 30 ∷ []) (2 ∷ 0 ∷ [])) (at 0 0) 0 [] ≡ (Err (refusal BAD_KIND 1), [])
 unfolding taking
 one = refl
 
-two : taking (lent (IDENT ∷ IDENT ∷ []) (0 ∷ 2 ∷ [])) (at 0 0) 0 [] ≡ (taken.Refused (refusal BAD_JOINT 1), [])
+two : taking (lent (IDENT ∷ IDENT ∷ []) (0 ∷ 2 ∷ [])) (at 0 0) 0 [] ≡ (Err (refusal BAD_JOINT 1), [])
 unfolding taking
 two = refl
 
-eight : taking (lent (IDENT ∷ []) (0 ∷ [])) (at 0 0) 0 [] ≡ (taken.Refused (refusal UNFIT 0), [])
+eight : taking (lent (IDENT ∷ []) (0 ∷ [])) (at 0 0) 0 [] ≡ (Err (refusal UNFIT 0), [])
 unfolding taking
 eight = refl
 
-four : taking (lent (IDENT ∷ []) (0 ∷ [])) (at 0 0) IDENT [] ≡ (taken.Refused (refusal EVENTS_FULL 0), [])
+four : taking (lent (IDENT ∷ []) (0 ∷ [])) (at 0 0) IDENT [] ≡ (Err (refusal EVENTS_FULL 0), [])
 unfolding taking
 four = refl
 
 -- "A take that answers no on a full list is no 4"
-no_four : taking (lent (IDENT ∷ []) (0 ∷ [])) (at 0 0) DOT [] ≡ (taken.No, [])
+no_four : taking (lent (IDENT ∷ []) (0 ∷ [])) (at 0 0) DOT [] ≡ (Ok None, [])
 unfolding taking
 no_four = refl
 
 -- only the three tokens from the position on are looked at
-beyond : taking (lent (IDENT ∷ IDENT ∷ IDENT ∷ 30 ∷ []) (0 ∷ 0 ∷ 0 ∷ 2 ∷ [])) (at 0 0) IDENT (0 ∷ []) ≡ (taken.Took (at 1 1), entry_of (event.token IDENT 1) ∷ [])
+beyond : taking (lent (IDENT ∷ IDENT ∷ IDENT ∷ 30 ∷ []) (0 ∷ 0 ∷ 0 ∷ 2 ∷ [])) (at 0 0) IDENT (0 ∷ []) ≡ (Ok (Some (at 1 1)), entry_of (event.token IDENT 1) ∷ [])
 unfolding taking
 beyond = refl

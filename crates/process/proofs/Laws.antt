@@ -1,21 +1,24 @@
 -- What each answer of the code is of its rule: the rule rewritten by what the code has for each of its parts. Assumes nothing.
 use mathlib.Core.Path.{◌≡◌, refl, sym, ap, ◌∙◌}
-use mathlib.Core.Bool.{Bool, true, false}
+use mathlib.Core.Bool.{Bool, true, false, not, false≢true}
 use mathlib.Core.List.{List}
-use Prim.Native.Nat.{ℕ, ◌+◌, ◌-◌, ◌*◌, ◌<◌, ◌≤◌}
-use lib.Dec.{eqb}
-use lib.ListN.{length, get_or, set, replicate, length-replicate, get_or-replicate}
-use lib.Seq.{ext_get_or, get_or-set_same, get_or-set_other}
+use Prim.Native.Nat.{ℕ, zero, suc, ◌+◌, ◌-◌, ◌*◌, ◌<◌, ◌≤◌}
+use lib.Dec.{eqb, ltb}
+use lib.ListN.{length, get_or, set, replicate}
+use mir.Val.{bool_byte}
+use Rattle.std.specs.Bool.{MatchBool}
+use Rattle.std.specs.List.{AllWithin, HoldsAt, range_with_len}
+use Rattle.std.proofs.lemmas.List.FromFn.{length-range_with_len, get_or-range_with_len}
 use native.Mathlib.Omega.{arith}
-use borrow.Author.Tests.{lt-ltb, le-ltb, le-leb, lt-leb, ne_eqb, eqb-true, eqb-false}
-use Rattle.base.specs.Base.{whether, bound, called, again, done}
-use Rattle.base.proofs.Laws.{tests, whether_eq, whether_ne}
-use Rattle.input.specs.SyntaxKind.{ENTER, TOKEN, FLOAT_SPLIT, FAULT, WIDTH_STEP, STEPS_FULL, UNSOUND}
-use Rattle.event.specs.Event.{START, FINISH, TOKEN_TAG, SPLIT_TAG, ERROR_TAG, tag_of, rank_of, flag_of, node_of, decodes, fresh}
+use borrow.Author.Tests.{lt-ltb, le-ltb, le-leb, lt-leb, ltb-true, ne_eqb}
+use Rattle.base.specs.Base.{whether, bound, called, again, done, loops}
+use Rattle.base.proofs.Laws.{tests, whether_eq, whether_ne, loops_done, loops_again}
+use Rattle.input.specs.SyntaxKind.{ENTER, TOKEN, LEAVE, FLOAT_SPLIT, FAULT, WIDTH_STEP, STEPS_FULL, UNSOUND}
+use Rattle.event.specs.Event.{START, FINISH, TOKEN_TAG, SPLIT_TAG, ERROR_TAG, SPENT, tag_of, rank_of, flag_of, node_of, decodes, in_range, fresh}
 use Rattle.event.specs.declared.State.{State}
-use Rattle.input.specs.Input.{refusal}
-use Rattle.process.specs.declared.Processed.TheVariants.{Steps, Refused}
-use Rattle.process.specs.Process.{forward_of, lands_at, paired_at, sound_at, has_name, names_of, is_split, steps_at, count_turn, chain_turn, chain_of, visited, entered_of, enter_turn, enter_of, step_of, process_turn, sound_of, count_of, write_of, process_of}
+use Rattle.input.specs.Input.{refusal, token_limit}
+use Rattle.std.proofs.Common.{Ok, Err, ◌≢◌}
+use Rattle.process.specs.Process.{forward_of, lands_at, paired_at, sound_at, sound_turn, sound_events, has_name, names_of, is_split, steps_at, count_turn, chain_turn, chain_of, visited_entry, visited, entered_of, enter_turn, enter_of, step_of, process_turn, sound_of, count_of, write_of, process_of}
 
 -- a test of a number for which the code has r
 module _ {A : Type 0} (f g : Unit {0} → A) {out : A} where
@@ -29,29 +32,31 @@ pub ruleset of_pass = (tests, whether_is, whether_isnt)
 
 -- soundness of an entry x
 module _ (ev : List ℕ) (n i : ℕ) {x : ℕ} (p : x ≡ get_or ev i 0) where
-  pub lands_none : {off : ℕ} → off ≡ forward_of x → off ≡ 0 → true ≡ lands_at ev n i
+  pub lands_none : 0 ≡ forward_of x → true ≡ lands_at ev n i
   unfolding lands_at bound whether
-  lands_none q z = rw (← p, ← q, z)
+  lands_none q = rw (← p, ← q)
 
-  pub lands_on : {off at y t : ℕ} → off ≡ forward_of x → (off ≡ 0 → ⊥) → at ≡ i + off → at < n → y ≡ get_or ev at 0 → t ≡ tag_of y → eqb t START ≡ lands_at ev n i
-  unfolding lands_at bound whether
-  lands_on {off} {at} q z a h r s = rw (← p, ← q, ← a, ne_eqb off 0 z, lt-ltb at n h, ← r, ← s)
+  module _ {off : ℕ} (q : off ≡ forward_of x) (z : 0 < off) where
+    pub lands_on : {y t : ℕ} → i + off < n → y ≡ get_or ev (i + off) 0 → t ≡ tag_of y → eqb t START ≡ lands_at ev n i
+    unfolding lands_at bound whether
+    lands_on h r s = rw (← p, ← q, ne_eqb off 0 (λ e. omega arith), lt-ltb (i + off) n h, ← r, ← s)
 
-  pub lands_off : {off at : ℕ} → off ≡ forward_of x → (off ≡ 0 → ⊥) → at ≡ i + off → n ≤ at → false ≡ lands_at ev n i
-  unfolding lands_at bound whether
-  lands_off {off} {at} q z a h = rw (← p, ← q, ← a, ne_eqb off 0 z, le-ltb at n h)
+    pub lands_off : n ≤ i + off → ltb (i + off) n ≡ lands_at ev n i
+    unfolding lands_at bound whether
+    lands_off h = rw (← p, ← q, ne_eqb off 0 (λ e. omega arith), le-ltb (i + off) n h)
 
-  pub paired_on : {t at y u : ℕ} → t ≡ tag_of x → t ≡ SPLIT_TAG → at ≡ i + 1 → at < n → y ≡ get_or ev at 0 → u ≡ tag_of y → eqb u FINISH ≡ paired_at ev n i
-  unfolding paired_at whether
-  paired_on {t} {at} q z a h r s = rw (← p, ← q, ← a, z, lt-ltb at n h, ← r, ← s)
+  module _ {b : Bool} (q : b ≡ is_split x) where
+    pub paired_on : {y u : ℕ} → b ≡ true → i + 1 < n → y ≡ get_or ev (i + 1) 0 → u ≡ tag_of y → eqb u FINISH ≡ paired_at ev n i
+    unfolding paired_at whether
+    paired_on z h r s = rw (← p, ← q, z, lt-ltb (i + 1) n h, ← r, ← s)
 
-  pub paired_off : {t at : ℕ} → t ≡ tag_of x → t ≡ SPLIT_TAG → at ≡ i + 1 → n ≤ at → false ≡ paired_at ev n i
-  unfolding paired_at whether
-  paired_off {t} {at} q z a h = rw (← p, ← q, ← a, z, le-ltb at n h)
+    pub paired_off : b ≡ true → n ≤ i + 1 → ltb (i + 1) n ≡ paired_at ev n i
+    unfolding paired_at whether
+    paired_off z h = rw (← p, ← q, z, le-ltb (i + 1) n h)
 
-  pub paired_not : {t : ℕ} → t ≡ tag_of x → (t ≡ SPLIT_TAG → ⊥) → true ≡ paired_at ev n i
-  unfolding paired_at whether
-  paired_not {t} q z = rw (← p, ← q, ne_eqb t SPLIT_TAG z)
+    pub paired_not : b ≡ false → true ≡ paired_at ev n i
+    unfolding paired_at whether
+    paired_not z = rw (← p, ← q, z)
 
   pub sound_all : {d l r : Bool} → d ≡ decodes x → d ≡ true → l ≡ lands_at ev n i → l ≡ true → r ≡ paired_at ev n i → r ≡ sound_at ev n i
   unfolding sound_at whether
@@ -64,6 +69,82 @@ module _ (ev : List ℕ) (n i : ℕ) {x : ℕ} (p : x ≡ get_or ev i 0) where
   pub sound_no : {d : Bool} → d ≡ decodes x → d ≡ false → false ≡ sound_at ev n i
   unfolding sound_at whether
   sound_no q z = rw (← p, ← q, z)
+
+-- soundness of all entries: the loop of the rule, from i on
+module _ (ev : List ℕ) (n : ℕ) where
+  all_go : (k i : ℕ) → n - i < k → ((j : ℕ) → j < n → sound_at ev n j ≡ true) → loops k (sound_turn ev n) false i ≡ true
+  unfolding sound_turn whether
+  all_go zero i h a = absurd (omega arith)
+  all_go (suc k) i h a = go (λ l. all_go k (i + 1) l a) (ltb i n) refl
+    where
+      go : (n - (i + 1) < k → loops k (sound_turn ev n) false (i + 1) ≡ true) → (b : Bool) → ltb i n ≡ b → loops (suc k) (sound_turn ev n) false i ≡ true
+      go rest true q = loops_again k (sound_turn ev n) false i (rw (q, a i (ltb-true i n q))) ∙ rest (omega (arith, ltb-true i n q))
+      go rest false q = loops_done k (sound_turn ev n) false i (rw q)
+
+  one_go : (k i j : ℕ) → n - i < k → i ≤ j → j < n → sound_at ev n j ≡ false → loops k (sound_turn ev n) false i ≡ false
+  unfolding sound_turn whether
+  one_go zero i j h l m a = absurd (omega arith)
+  one_go (suc k) i j h l m a = go (λ e. one_go k (i + 1) j (omega arith) e m a) (sound_at ev n i) refl
+    where
+      go : (i + 1 ≤ j → loops k (sound_turn ev n) false (i + 1) ≡ false) → (b : Bool) → sound_at ev n i ≡ b → loops (suc k) (sound_turn ev n) false i ≡ false
+      go rest true q =
+          let ne : i ≢ j = λ e. false≢true (sym a ∙ ap (λ z. sound_at ev n z) (sym e) ∙ q) in
+          loops_again k (sound_turn ev n) false i (rw (lt-ltb i n (omega arith), q)) ∙ rest (omega arith)
+      go rest false q = loops_done k (sound_turn ev n) false i (rw (lt-ltb i n (omega arith), q))
+
+  nth : (k : ℕ) → k < n → get_or (range_with_len 0 n) k 0 ≡ k
+  nth k h = get_or-range_with_len 0 n k 0 h ∙ omega arith
+
+  pub sound_events_all : (r : Bool) → MatchBool r (AllWithin (λ j. sound_at ev n j ≡ true) (range_with_len 0 n) 0 (length (range_with_len 0 n))) ((k : ℕ) × (k < length (range_with_len 0 n)) × HoldsAt (λ j. sound_at ev n j ≡ false) (range_with_len 0 n) k) → r ≡ sound_events ev n
+  unfolding sound_events
+  sound_events_all true a = sym (all_go (suc n) 0 (omega arith) λ j h. rw (nth j h) at (a j 0 (omega arith) (omega (arith, length-range_with_len 0 n))))
+  sound_events_all false (k, h, a) =
+      let l : k < n = omega (arith, length-range_with_len 0 n) in
+      sym (one_go (suc n) 0 k (omega arith) (omega arith) l (rw (nth k l) at (a 0)))
+
+module _ (s : State) (ev : List ℕ) {b : Bool} (p : b ≡ in_range token_limit s ev) where
+  pub sound_yes : {r : Bool} → b ≡ true → r ≡ sound_events ev s.count → r ≡ sound_of s ev
+  unfolding sound_of whether
+  sound_yes q e = e ∙ rw (← p, q)
+
+  pub sound_no_range : b ≡ false → b ≡ sound_of s ev
+  unfolding sound_of whether
+  sound_no_range q = rw (← p, q)
+
+-- a bool as a number
+pub counts : (b : Bool) → bool_byte b ≡ whether b (λ _. 1) (λ _. 0)
+unfolding whether
+counts true = refl
+counts false = refl
+
+counts_not : (b : Bool) → bool_byte (not b) ≡ whether b (λ _. 0) (λ _. 1)
+unfolding whether
+counts_not true = refl
+counts_not false = refl
+
+-- how many steps an entry x gives that is no start: one for a token, a split or an error, whose tags stand together; a finish by what stands before it
+module _ (after : Bool) (x : ℕ) {t : ℕ} (q : t ≡ tag_of x) where
+  one_of : (u : ℕ) → 3 ≤ u → u < 6 → (g : Unit {0} → ℕ) → 1 ≡ whether (eqb u TOKEN_TAG) (λ _. 1) λ _. whether (eqb u SPLIT_TAG) (λ _. 1) λ _. whether (eqb u ERROR_TAG) (λ _. 1) g
+  unfolding whether
+  one_of (suc (suc (suc zero))) l h g = refl
+  one_of (suc (suc (suc (suc zero)))) l h g = refl
+  one_of (suc (suc (suc (suc (suc zero))))) l h g = refl
+  one_of (suc (suc (suc (suc (suc (suc u)))))) l h g = absurd (omega arith)
+  one_of zero l h g = absurd (omega arith)
+  one_of (suc zero) l h g = absurd (omega arith)
+  one_of (suc (suc zero)) l h g = absurd (omega arith)
+
+  pub steps_start : {k : ℕ} → t ≡ START → k ≡ names_of x → k ≡ steps_at after x
+  unfolding steps_at whether
+  steps_start z e = e ∙ rw (← q, z)
+
+  pub steps_one : 3 ≤ t → t < 6 → 1 ≡ steps_at after x
+  unfolding steps_at whether
+  steps_one l h = rw (← q, ne_eqb t START (λ e. omega arith)) (one_of t l h _)
+
+  pub steps_finish : (t ≡ START → ⊥) → (t ≡ TOKEN_TAG → ⊥) → (t ≡ SPLIT_TAG → ⊥) → (t ≡ ERROR_TAG → ⊥) → bool_byte (not after) ≡ steps_at after x
+  unfolding steps_at whether
+  steps_finish a b c d = rw (← q, ne_eqb t START a, ne_eqb t TOKEN_TAG b, ne_eqb t SPLIT_TAG c, ne_eqb t ERROR_TAG d) (counts_not after)
 
 -- the steps of an entry x
 module _ (x : ℕ) {t : ℕ} (q : t ≡ tag_of x) where
@@ -79,9 +160,35 @@ module _ (x : ℕ) {t : ℕ} (q : t ≡ tag_of x) where
   unfolding step_of whether
   step_error y w z a = rw (← q, z, a)
 
+  pub step_leave : (t ≡ TOKEN_TAG → ⊥) → (t ≡ SPLIT_TAG → ⊥) → (t ≡ ERROR_TAG → ⊥) → LEAVE ≡ step_of x
+  unfolding step_of whether
+  step_leave a b c = rw (← q, ne_eqb t TOKEN_TAG a, ne_eqb t SPLIT_TAG b, ne_eqb t ERROR_TAG c)
+
+  pub visited_start : {v : ℕ} → t ≡ START → v ≡ visited_entry → v ≡ visited x
+  unfolding visited whether
+  visited_start z e = e ∙ rw (← q, z)
+
+  pub visited_other : (t ≡ START → ⊥) → x ≡ visited x
+  unfolding visited whether
+  visited_other z = rw (← q, ne_eqb t START z)
+
 pub entered : (st st' : List ℕ) (at x : ℕ) {b : Bool} {k : ℕ} → b ≡ has_name x → b ≡ true → k ≡ node_of x → st' ≡ set st at (ENTER + k) → st' ≡ entered_of st at x
 unfolding whether
 entered st st' at x p q a e = e ∙ rw (← p, q, a)
+
+pub entered_not : (st : List ℕ) (at x : ℕ) {b : Bool} → b ≡ has_name x → b ≡ false → st ≡ entered_of st at x
+unfolding whether
+entered_not st at x p q = rw (← p, q)
+
+-- a name, by what the code has for the tag
+module _ (x : ℕ) {t : ℕ} (q : t ≡ tag_of x) where
+  pub named_start : {r : ℕ} → t ≡ START → r ≡ rank_of x → ltb SPENT r ≡ has_name x
+  unfolding has_name whether
+  named_start z a = rw (← q, z, a)
+
+  pub named_no : (t ≡ START → ⊥) → eqb t START ≡ has_name x
+  unfolding has_name whether
+  named_no z = rw (← q, ne_eqb t START z)
 
 -- turns of the loops
 module _ (ev : List ℕ) (n i : ℕ) {x : ℕ} (h : i < n) (p : x ≡ get_or ev i 0) where
@@ -89,25 +196,22 @@ module _ (ev : List ℕ) (n i : ℕ) {x : ℕ} (h : i < n) (p : x ≡ get_or ev 
   unfolding count_turn whether
   count_again total after q s = rw (lt-ltb i n h, ← p, ← q, ← s)
 
-  pub chain_done : (k : ℕ) {r off : ℕ} → r ≡ names_of x → off ≡ forward_of x → off ≡ 0 → done (k + r) ≡ chain_turn ev n (i, k)
+  pub chain_done : (k : ℕ) {r : ℕ} → r ≡ names_of x → 0 ≡ forward_of x → done (k + r) ≡ chain_turn ev n (i, k)
   unfolding chain_turn whether bound
-  chain_done k q s z = rw (lt-ltb i n h, ← p, ← s, z, q)
+  chain_done k q s = rw (lt-ltb i n h, ← p, ← s, q)
 
-  pub chain_again : (k : ℕ) {r off : ℕ} → r ≡ names_of x → off ≡ forward_of x → (off ≡ 0 → ⊥) → again (i + off, k + r) ≡ chain_turn ev n (i, k)
+  pub chain_again : (k : ℕ) {r off : ℕ} → r ≡ names_of x → off ≡ forward_of x → 0 < off → again (i + off, k + r) ≡ chain_turn ev n (i, k)
   unfolding chain_turn whether bound
-  chain_again k {off = off} q s z = rw (lt-ltb i n h, ← p, ← s, ne_eqb off 0 z, q)
+  chain_again k {off = off} q s z = rw (lt-ltb i n h, ← p, ← s, ne_eqb off 0 (λ e. omega arith), q)
 
-  module _ (st : List ℕ) (t : ℕ) {t' : ℕ} {ev' st' : List ℕ} {off : ℕ} (a : t' ≡ t - names_of x) (b : st' ≡ entered_of st t' x) (c : ev' ≡ set ev i (visited x)) (d : off ≡ forward_of x) where
-    pub enter_done : off ≡ 0 → done (ev', st') ≡ enter_turn n (i, t, ev, st)
+  module _ (st : List ℕ) (t : ℕ) {t' : ℕ} {ev' st' : List ℕ} (a : t' ≡ t - names_of x) (b : st' ≡ entered_of st t' x) (c : ev' ≡ set ev i (visited x)) where
+    pub enter_done : 0 ≡ forward_of x → done (ev', st') ≡ enter_turn n (i, t, ev, st)
     unfolding enter_turn bound whether
-    enter_done z = rw (lt-ltb i n h, ← p, ← d, z, b, c, a)
+    enter_done d = rw (lt-ltb i n h, ← p, ← d, b, c, a)
 
-    pub enter_again : (off ≡ 0 → ⊥) → again (i + off, t', ev', st') ≡ enter_turn n (i, t, ev, st)
+    pub enter_again : {off : ℕ} → off ≡ forward_of x → 0 < off → again (i + off, t', ev', st') ≡ enter_turn n (i, t, ev, st)
     unfolding enter_turn bound whether
-    enter_again z = rw (lt-ltb i n h, ← p, ← d, ne_eqb off 0 z, b, c, a)
-
-pub visit_all : (ev ev' st st' : List ℕ) (at top x : ℕ) {k below v : ℕ} → k ≡ names_of x → below ≡ top - k → st' ≡ entered_of st below x → v ≡ visited x → ev' ≡ set ev at v → (below ≡ top - names_of x) × ((st' ≡ entered_of st below x) × (ev' ≡ set ev at (visited x)))
-visit_all ev ev' st st' at top x p q a r b = (q ∙ ap (λ z. top - z) p, (a, b ∙ ap (λ z. set ev at z) r))
+    enter_again {off} d z = rw (lt-ltb i n h, ← p, ← d, ne_eqb off 0 (λ e. omega arith), b, c, a)
 
 -- a turn of the pass: at a start, at an entry that gives a step, at one that gives none
 module _ (n i m : ℕ) (after : Bool) (ev st : List ℕ) {x t : ℕ} (h : i < n) (p : x ≡ get_or ev i 0) (q : t ≡ tag_of x) where
@@ -123,28 +227,16 @@ module _ (n i m : ℕ) (after : Bool) (ev st : List ℕ) {x t : ℕ} (h : i < n)
   unfolding process_turn whether bound
   turn_none {k} z a w = rw (lt-ltb i n h, ← p, ← q, ne_eqb t START z, ← a, ne_eqb k 1 w)
 
--- an event list cleared, entry by entry
-pub cleared_more : (l : List ℕ) {l' : List ℕ} (i : ℕ) → l' ≡ set l i 0 → i < length l → ((k : ℕ) → k < i → get_or l k 0 ≡ 0) → (k : ℕ) → k < i + 1 → get_or l' k 0 ≡ 0
-cleared_more l i e h z k b = ap (λ m. get_or m k 0) e ∙ go (eqb k i) refl
-  where
-    go : (b : Bool) → eqb k i ≡ b → get_or (set l i 0) k 0 ≡ 0
-    go true q = rw (eqb-true k i q, get_or-set_same l i 0 0 h)
-    go false q = get_or-set_other l i k 0 0 (eqb-false k i q) ∙ z k (omega (arith, eqb-false k i q))
-
-pub cleared_all : (l₀ l : List ℕ) (i : ℕ) → length l ≡ length l₀ → length l ≤ i → ((k : ℕ) → k < i → get_or l k 0 ≡ 0) → l ≡ replicate (length l₀) 0
-cleared_all l₀ l i e h z =
-    ext_get_or 0 l (replicate (length l₀) 0) (e ∙ sym (length-replicate (length l₀) 0)) (λ k b. z k (omega arith) ∙ sym (get_or-replicate (length l₀) k 0 0 (omega arith)))
-
 -- the answers of the pass
 module _ (s : State) (ev st : List ℕ) {b : Bool} (p : b ≡ sound_of s ev) where
-  pub unsound : b ≡ false → (Refused (refusal UNSOUND 0), ev, st) ≡ process_of s ev st
+  pub unsound : b ≡ false → (Err (refusal UNSOUND 0), ev, st) ≡ process_of s ev st
   unfolding process_of whether
   unsound q = rw (← p, q)
 
-  pub too_many : {k : ℕ} → b ≡ true → k ≡ count_of ev s.count → length st < k → (Refused (refusal STEPS_FULL s.pos.0), ev, st) ≡ process_of s ev st
+  pub too_many : {k : ℕ} → b ≡ true → k ≡ count_of ev s.count → length st < k → (Err (refusal STEPS_FULL s.pos.0), ev, st) ≡ process_of s ev st
   unfolding process_of whether
   too_many {k} q e h = rw (← p, q, ← e, lt-leb k (length st) h)
 
-  pub passed : {k m : ℕ} {f : State} {ev' st' : List ℕ} → b ≡ true → k ≡ count_of ev s.count → k ≤ length st → (m, st') ≡ write_of s.count ev st → (mid : List ℕ) → length mid ≡ length ev → ev' ≡ replicate (length mid) 0 → f ≡ fresh → (Steps m f, ev', st') ≡ process_of s ev st
+  pub passed : {k m : ℕ} {f : State} {ev' st' : List ℕ} → b ≡ true → k ≡ count_of ev s.count → k ≤ length st → (m, st') ≡ write_of s.count ev st → (mid : List ℕ) → length mid ≡ length ev → ev' ≡ replicate (length mid) 0 → f ≡ fresh → (Ok (m, f), ev', st') ≡ process_of s ev st
   unfolding process_of whether called
   passed {k} q e h w mid l c f = rw (← p, q, ← e, le-leb k (length st) h, ← w, c, l, f)

@@ -8,12 +8,12 @@ use Rattle.base.specs.Base.{whether, bound, called, on_next, loops}
 use Rattle.input.specs.SyntaxKind.{IDENT, INT_NUMBER, DOT, BANG, LITERAL, PATH_EXPR, PATH, PATH_SEGMENT, NAME_REF, PREFIX_EXPR, FIELD_EXPR, ENTER, TOKEN, LEAVE, FLOAT_SPLIT, WIDTH_STEP}
 use Rattle.input.specs.Input.{token_limit}
 use Rattle.event.specs.Event.{status_of, view, decodes, flag_by, start_entry, preceding_entry, field_entry, finish_entry, token_entry, split_entry, extended_entry, parented_entry, event_limit, capacity_of, in_range, fresh}
-use Rattle.process.specs.declared.Processed.TheVariants.{Steps}
+use Rattle.std.proofs.Common.{Ok}
 use Rattle.process.specs.Process.{forward_of, lands_at, paired_at, sound_at, sound_turn, sound_events, sound_of, has_name, steps_at, count_turn, count_of, chain_turn, chain_of, visited, enter_turn, enter_of, step_of, process_turn, write_of, process_of}
 
 -- the pass, with every rule open
 abbrev Passed : ℕ → ℕ → List ℕ → ℕ → List ℕ → Type 0
-Passed pos count events n steps = process_of (record { pos = record { 0 = pos }; count = count }) events (replicate n 0) ≡ (Steps n fresh, replicate count 0, steps)
+Passed pos count events n steps = process_of (record { pos = record { 0 = pos }; count = count }) events (replicate n 0) ≡ (Ok (n, fresh), replicate count 0, steps)
 
 abbrev enter : ℕ → ℕ
 enter node = ENTER + node

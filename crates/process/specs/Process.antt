@@ -1,12 +1,11 @@
 -- The pass from events to steps, over the lent lists.
-use Rattle.std.specs.Prelude.{ℕ, suc, ◌+◌, ◌-◌, ◌*◌, Bool, true, false, List, length, get_or, set, replicate, ltb, leb, eqb}
+use Rattle.std.specs.Prelude.{ℕ, suc, ◌+◌, ◌-◌, ◌*◌, Bool, true, false, List, length, get_or, set, replicate, ltb, leb, eqb, Result, Ok, Err}
 use Rattle.base.specs.Base.{whether, called, bound, Next, again, done, loops}
 use Rattle.input.specs.SyntaxKind.{ENTER, TOKEN, LEAVE, FLOAT_SPLIT, FAULT, WIDTH_STEP, STEPS_FULL, UNSOUND}
 use Rattle.input.specs.Input.{token_limit, refusal}
 use Rattle.event.specs.Event.{START, FINISH, TOKEN_TAG, SPLIT_TAG, ERROR_TAG, SPENT, tag_of, rank_of, flag_of, node_of, offset_of, entry, decodes, in_range, fresh}
 use Rattle.event.specs.declared.State.{State}
-use Rattle.process.specs.declared.Processed.{Processed}
-use Rattle.process.specs.declared.Processed.TheVariants.{Steps, Refused}
+use Rattle.input.specs.declared.Refusal.{Refusal}
 
 -- "An event list is sound when every entry up to the count decodes, forward offsets land on later starts in the list, each split is directly followed by a finish, the count is at most the list's length and at most 65,552, and the position at most n (4,096 in a call lent no tokens, the pass included)."
 
@@ -131,11 +130,15 @@ process_turn n z =
 unfoldable pub write_of : ℕ → List ℕ → List ℕ → ℕ × List ℕ
 write_of n ev st = loops (suc n) (process_turn n) (0, st) (0, 0, false, ev, st)
 
+-- what the pass answers: the number of steps, and the fresh state
+abbrev pub Processed : Type 0
+Processed = Result (ℕ × State) Refusal
+
 -- "Machine calls refuse 9 for a count or position out of range, the pass for all of it, before 5." "After success the list is fresh, all 0, count and position 0 too; after a refusal unchanged."
 unfoldable pub process_of : State → List ℕ → List ℕ → Processed × List ℕ × List ℕ
 process_of s ev st =
     whether (sound_of s ev)
     (λ _. whether (leb (count_of ev s.count) (length st))
-    (λ _. called (write_of s.count ev st) λ n st'. (Steps n fresh, replicate (length ev) 0, st'))
-    (λ _. (Refused (refusal STEPS_FULL s.pos.0), ev, st)))
-    (λ _. (Refused (refusal UNSOUND 0), ev, st))
+    (λ _. called (write_of s.count ev st) λ n st'. (Ok (n, fresh), replicate (length ev) 0, st'))
+    (λ _. (Err (refusal STEPS_FULL s.pos.0), ev, st)))
+    (λ _. (Err (refusal UNSOUND 0), ev, st))

@@ -1,7 +1,7 @@
 // The pass from events to steps, in place.
 #![tactic(auto)]
 
-ghost use Rattle.std.specs.Prelude.{◌≡◌, Bool, true, false, ℕ, ◌+◌, ◌-◌, ◌*◌, ◌^◌, ◌≤◌, ◌<◌, length, set, replicate};
+ghost use Rattle.std.specs.Prelude.{◌≡◌, Bool, true, false, ℕ, ◌+◌, ◌-◌, ◌*◌, ◌^◌, ◌≤◌, ◌<◌, length, set, replicate, unwrap_or, IfSome};
 ghost use Rattle.base.specs.Base.{again};
 ghost use Rattle.event.specs.Event.{event_limit};
 ghost use Rattle.process.specs.Process.{forward_of, lands_at, paired_at, sound_at, sound_events, sound_of, has_name, names_of, steps_at, is_split, count_of, chain_of, visited, entered_of, enter_of, step_of, process_turn, write_of, process_of};
@@ -12,13 +12,6 @@ use input::syntax_kind::{
 };
 use input::{Position, Refusal};
 
-// What the pass answers: the number of steps with the fresh state, or a refusal.
-#[derive(Clone, Copy)]
-pub enum Processed {
-    Steps(usize, State),
-    Refused(Refusal),
-}
-
 // How far the steps are written, and whether the event before was a split.
 #[derive(Clone, Copy)]
 struct Written {
@@ -26,15 +19,19 @@ struct Written {
     after: bool,
 }
 
-// The forward offset of an entry, 0 for none.
-fn forward_of(x: u64) -> usize
-    ensures value { result ≡ forward_of x }
-    ensures upper_bound { result < 2 ^ 50 }
+// The forward offset of an entry, where it has one: 0 stands for none.
+#[tactic(auto, using(crate::proofs::Laws::whether_is, crate::proofs::Laws::whether_isnt), unfolding(crate::specs::Process::forward_of))]
+fn forward_of(x: u64) -> Option<usize>
+    ensures value { unwrap_or result 0 ≡ forward_of x }
+    ensures bounds { IfSome result (λ offset. (0 < offset) × (offset < 2 ^ 50)) }
 {
-    if event::tag_of(x) == event::START {
-        return event::offset_of(x) as usize;
+    if event::tag_of(x) != event::START {
+        return None;
     }
-    0
+    match event::offset_of(x) as usize {
+        0 => None,
+        offset => Some(offset),
+    }
 }
 
 // "forward offsets land on later starts in the list"
@@ -42,115 +39,78 @@ fn lands_at(events: &[u64], n: usize, i: usize) -> bool
     requires { (i < n) × (n ≤ length events.now) }
     ensures { result ≡ lands_at events.now n i }
 {
-    let offset = forward_of(event::event_at(events, i));
-    if offset == 0 {
+    let Some(offset) = forward_of(event::event_at(events, i)) else {
         return true;
-    }
+    };
     let at = i + offset;
-    if at < n {
-        return event::tag_of(event::event_at(events, at)) == event::START;
-    }
-    false
+    at < n && event::tag_of(event::event_at(events, at)) == event::START
 }
 
 // "each split is directly followed by a finish"
+#[tactic(auto, using(crate::proofs::Laws::paired_on, crate::proofs::Laws::paired_off, crate::proofs::Laws::paired_not))]
 fn paired_at(events: &[u64], n: usize, i: usize) -> bool
     requires { i < n }
     ensures { result ≡ paired_at events.now n i }
 {
-    if event::tag_of(event::event_at(events, i)) == event::SPLIT_TAG {
-        let next = i + 1;
-        if next < n {
-            return event::tag_of(event::event_at(events, next)) == event::FINISH;
-        }
-        return false;
+    if !is_split(event::event_at(events, i)) {
+        return true;
     }
-    true
+    let next = i + 1;
+    next < n && event::tag_of(event::event_at(events, next)) == event::FINISH
 }
 
+#[tactic(auto, using(crate::proofs::Laws::sound_all, crate::proofs::Laws::sound_stray, crate::proofs::Laws::sound_no))]
 fn sound_at(events: &[u64], n: usize, i: usize) -> bool
     requires { (i < n) × (n ≤ length events.now) }
     ensures { result ≡ sound_at events.now n i }
 {
-    if event::decodes(event::event_at(events, i)) {
-        if lands_at(events, n, i) {
-            return paired_at(events, n, i);
-        }
-        return false;
-    }
-    false
+    event::decodes(event::event_at(events, i)) && lands_at(events, n, i) && paired_at(events, n, i)
 }
 
 fn sound_events(events: &[u64], n: usize) -> bool
     requires { n ≤ length events.now }
     ensures { result ≡ sound_events events.now n }
 {
-    let mut i = 0;
-    while i < n {
-        if sound_at(events, n, i) {
-            i = i + 1;
-        } else {
-            return false;
-        }
-    }
-    true
+    (0..n).all(|i| sound_at(events, n, i))
 }
 
 // An event list is sound, its count and position in range.
+#[tactic(auto, using(event::proofs::Laws::in_range_count, crate::proofs::Laws::sound_yes, crate::proofs::Laws::sound_no_range), unfolding(input::specs::Input::token_limit))]
 fn sound(events: &[u64], state: State) -> bool
     ensures value { result ≡ sound_of state events.now }
     ensures count_in_bounds { result ≡ true → (state.count ≤ length events.now) × (state.count ≤ event_limit) }
 {
-    let count = state.count;
-    if event::in_range(events, state, Position::LIMIT) {
-        return sound_events(events, count);
-    }
-    false
+    event::in_range(events, state, Position::LIMIT) && sound_events(events, state.count)
 }
 
 // A start that has a name.
+#[tactic(auto, using(crate::proofs::Laws::named_start, crate::proofs::Laws::named_no))]
 fn has_name(x: u64) -> bool
     ensures { result ≡ has_name x }
 {
-    if event::tag_of(x) == event::START {
-        return event::SPENT < event::rank_of(x);
-    }
-    false
+    event::tag_of(x) == event::START && event::SPENT < event::rank_of(x)
 }
 
 // How many names an entry has.
+#[tactic(auto, using(crate::proofs::Laws::counts))]
 fn names_of(x: u64) -> usize
     ensures value { result ≡ names_of x }
     ensures upper_bound { result ≤ 1 }
 {
-    if has_name(x) {
-        return 1;
-    }
-    0
+    usize::from(has_name(x))
 }
 
 // How many steps an entry gives by itself.
+#[tactic(auto, using(crate::proofs::Laws::steps_start, crate::proofs::Laws::steps_one, crate::proofs::Laws::steps_finish))]
 fn steps_at(after: bool, x: u64) -> usize
     ensures value { result ≡ steps_at after x }
     ensures upper_bound { result ≤ 1 }
 {
-    let tag = event::tag_of(x);
-    if tag == event::START {
-        return names_of(x);
+    match event::tag_of(x) {
+        event::START => names_of(x),
+        event::TOKEN_TAG | event::SPLIT_TAG | event::ERROR_TAG => 1,
+        _ => usize::from(!after),
     }
-    if tag == event::TOKEN_TAG {
-        return 1;
-    }
-    if tag == event::SPLIT_TAG {
-        return 1;
-    }
-    if tag == event::ERROR_TAG {
-        return 1;
-    }
-    if after {
-        return 0;
-    }
-    1
 }
 
 fn is_split(x: u64) -> bool
@@ -161,77 +121,57 @@ fn is_split(x: u64) -> bool
 
 // How many steps the events give.
 fn count_steps(events: &[u64], n: usize) -> usize
+    requires { n ≤ length events.now }
     ensures { result ≡ count_of events.now n }
 {
-    let mut i = 0;
     let mut total = 0;
     let mut after = false;
-    while i < n {
-        let x = event::event_at(events, i);
-        total = total + steps_at(after, x);
+    for &x in &events[..n] {
+        total += steps_at(after, x);
         after = is_split(x);
-        i = i + 1;
     }
     total
 }
 
-// How many of the chain of forward parents from a start on are named.
+// How many of the chain of forward parents from a start on are named. An offset leads from each to the next, so that no range is walked here, nor in `enter`.
 fn chain(events: &[u64], n: usize, at: usize) -> usize
     requires { (at < n) × (n ≤ length events.now) }
     ensures value { result ≡ chain_of events.now n at }
     ensures upper_bound { result ≤ n }
 {
     let mut next = at;
-    let mut named: usize = 0;
+    let mut named = 0;
     while next < n {
         let x = event::event_at(events, next);
-        named = named + names_of(x);
-        let offset = forward_of(x);
-        if offset == 0 {
+        named += names_of(x);
+        let Some(offset) = forward_of(x) else {
             return named;
-        }
-        next = next + offset;
+        };
+        next += offset;
     }
     named
 }
 
 // A visited start has neither a name nor a forward parent, so that each forward parent is followed once.
+#[tactic(auto, using(crate::proofs::Laws::visited_start, crate::proofs::Laws::visited_other))]
 fn visited(x: u64) -> u64
     ensures { result ≡ visited x }
 {
     if event::tag_of(x) == event::START {
-        return event::extended_entry(event::start_entry(), 0);
-    }
-    x
-}
-
-// Stores a step; nothing past the end.
-fn put_step(steps: &mut [u32], at: usize, step: u32)
-    ensures { steps.new ≡ set steps.old at step }
-{
-    if at < steps.len() {
-        steps[at] = step;
+        event::extended_entry(event::start_entry(), 0)
+    } else {
+        x
     }
 }
 
 // The enter of a start, if it has a name.
+#[tactic(auto, using(crate::proofs::Laws::entered, crate::proofs::Laws::entered_not))]
 fn put_enter(steps: &mut [u32], at: usize, x: u64)
     ensures { steps.new ≡ entered_of steps.old at x }
 {
     if has_name(x) {
-        put_step(steps, at, ENTER + event::node_of(x) as u32);
-        return;
+        event::put(steps, at, ENTER + event::node_of(x) as u32);
     }
-}
-
-// What is left of a, 0 if b is more.
-fn less(a: usize, b: usize) -> usize
-    ensures { result ≡ a - b }
-{
-    if a < b {
-        return 0;
-    }
-    a - b
 }
 
 // Marks a start visited and writes its enter, if it has a name, just below top; what is below it then.
@@ -240,7 +180,7 @@ fn visit(events: &mut [u64], steps: &mut [u32], at: usize, top: usize, x: u64) -
     ensures steps_after { steps.new ≡ entered_of steps.old result x }
     ensures events_after { events.new ≡ set events.old at (visited x) }
 {
-    let below = less(top, names_of(x));
+    let below = top.saturating_sub(names_of(x));
     put_enter(steps, below, x);
     event::put(events, at, visited(x));
     below
@@ -256,59 +196,54 @@ fn enter(events: &mut [u64], steps: &mut [u32], n: usize, at: usize, top: usize)
     while parent < n {
         let x = event::event_at(events, parent);
         below = visit(events, steps, parent, below, x);
-        let forward = forward_of(x);
-        if forward == 0 {
+        let Some(forward) = forward_of(x) else {
             return;
-        }
-        parent = parent + forward;
+        };
+        parent += forward;
     }
 }
 
-// The step of an entry that is no start.
+// The step of an entry that is no start. The parts of an entry are below 256, so that no `as` loses bits; `u32::from` takes no u64.
+#[tactic(auto, using(crate::proofs::Laws::step_token, crate::proofs::Laws::step_split, crate::proofs::Laws::step_error, crate::proofs::Laws::step_leave))]
 fn step_of(x: u64) -> u32
     ensures { result ≡ step_of x }
 {
-    let tag = event::tag_of(x);
-    if tag == event::TOKEN_TAG {
-        return TOKEN + WIDTH_STEP * (event::rank_of(x) as u32) + event::node_of(x) as u32;
+    match event::tag_of(x) {
+        event::TOKEN_TAG => {
+            TOKEN + WIDTH_STEP * (event::rank_of(x) as u32) + event::node_of(x) as u32
+        }
+        event::SPLIT_TAG => FLOAT_SPLIT + event::flag_of(x) as u32,
+        event::ERROR_TAG => FAULT + event::node_of(x) as u32,
+        _ => LEAVE,
     }
-    if tag == event::SPLIT_TAG {
-        return FLOAT_SPLIT + event::flag_of(x) as u32;
-    }
-    if tag == event::ERROR_TAG {
-        return FAULT + event::node_of(x) as u32;
-    }
-    LEAVE
 }
 
 // One event's steps.
+#[tactic(auto, using(crate::proofs::Laws::turn_step, crate::proofs::Laws::turn_none), unfolding(event::specs::Event::event_limit, input::specs::Input::token_limit))]
 fn turn(events: &mut [u64], steps: &mut [u32], n: usize, i: usize, done: Written) -> Written
     requires { (i < n) × (n ≤ length events.old) × (n ≤ event_limit) × (done.steps ≤ event_limit * i) }
     ensures steps_after { again (i + 1, result.steps, result.after, events.new, steps.new) ≡ process_turn n (i, done.steps, done.after, events.old, steps.old) }
     ensures steps_bound { result.steps ≤ event_limit * (i + 1) }
 {
-    let written = done.steps;
-    let after = done.after;
     let x = event::event_at(events, i);
     if event::tag_of(x) == event::START {
-        let top = written + chain(events, n, i);
+        let top = done.steps + chain(events, n, i);
         enter(events, steps, n, i, top);
         return Written {
             steps: top,
             after: false,
         };
     }
-    if steps_at(after, x) == 1 {
-        put_step(steps, written, step_of(x));
-        let split = is_split(x);
+    if steps_at(done.after, x) == 1 {
+        event::put(steps, done.steps, step_of(x));
         return Written {
-            steps: written + 1,
-            after: split,
+            steps: done.steps + 1,
+            after: is_split(x),
         };
     }
     Written {
-        steps: written,
         after: false,
+        ..done
     }
 }
 
@@ -317,14 +252,12 @@ fn write(events: &mut [u64], steps: &mut [u32], n: usize) -> usize
     requires { (n ≤ length events.old) × (n ≤ event_limit) }
     ensures { (result, steps.new) ≡ write_of n events.old steps.old }
 {
-    let mut i = 0;
     let mut done = Written {
         steps: 0,
         after: false,
     };
-    while i < n {
+    for i in 0..n {
         done = turn(events, steps, n, i, done);
-        i = i + 1;
     }
     done.steps
 }
@@ -333,33 +266,30 @@ fn write(events: &mut [u64], steps: &mut [u32], n: usize) -> usize
 pub fn clear(events: &mut [u64])
     ensures { events.new ≡ replicate (length events.old) 0 }
 {
-    let end = events.len();
-    let mut i = 0;
-    while i < end {
-        event::put(events, i, 0);
-        i = i + 1;
-    }
+    events.fill(0);
 }
 
-// "The pass: at a start, collect its chain of forward parents, each turned nameless when visited, and enter the named ones outermost first."
-pub fn process(events: &mut [u64], state: State, steps: &mut [u32]) -> Processed
+// The number of steps with the fresh state, or a refusal. "The pass: at a start, collect its chain of forward parents, each turned nameless when visited, and enter the named ones outermost first."
+pub fn process(
+    events: &mut [u64],
+    state: State,
+    steps: &mut [u32],
+) -> Result<(usize, State), Refusal>
     ensures { (result, events.new, steps.new) ≡ process_of state events.old steps.old }
 {
-    let count = state.count;
-    let place = state.pos.0;
     if !sound(events, state) {
-        return Processed::Refused(Refusal {
+        return Err(Refusal {
             number: UNSOUND,
             place: 0,
         });
     }
-    if steps.len() < count_steps(events, count) {
-        return Processed::Refused(Refusal {
+    if steps.len() < count_steps(events, state.count) {
+        return Err(Refusal {
             number: STEPS_FULL,
-            place,
+            place: state.pos.0,
         });
     }
-    let written = write(events, steps, count);
+    let written = write(events, steps, state.count);
     clear(events);
-    Processed::Steps(written, State::fresh())
+    Ok((written, State::fresh()))
 }

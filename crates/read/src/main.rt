@@ -3,23 +3,16 @@
 
 ghost use Rattle.std.specs.Prelude.{◌+◌, ◌≤◌};
 
-use answers::{Room, Text, Tokens};
+use answers::{Room, Text, Tokens, given};
 use std::io::{self, Read};
-use stored::{Head, Section, Span, Tag};
-
-// The first bytes of a buffer.
-fn first(buf: &[u8], have: usize) -> &[u8] {
-    stored::part(buf, Span { at: 0, len: have })
-}
+use stored::{Section, Tag};
 
 // Reads on until `end` bytes stand in `buf`, and answers how many do: fewer where the input ends.
 fn fill(input: &mut impl Read, buf: &mut [u8], have: usize, end: usize) -> io::Result<usize> {
-    if have <= end {
-        if end <= buf.len() {
-            return Ok(have + streams::read_full(input, &mut buf[have..end])?);
-        }
-    }
-    Ok(have)
+    let Some(rest) = buf.get_mut(have..end) else {
+        return Ok(have);
+    };
+    Ok(have + streams::read_full(input, rest)?)
 }
 
 // Reads on to the end of the joints' head, and then to the byte after the joints: "nothing after".
@@ -27,27 +20,25 @@ fn read_joints(input: &mut impl Read, buf: &mut [u8], have: usize, at: usize) ->
     requires { at ≤ 65536 }
 {
     let have = fill(input, buf, have, at + Section::HEAD)?;
-    match stored::head_at(first(buf, have), at, Tag::JOINTS) {
-        Head::Length(len) => if (Tokens::LIMIT as usize) < len {
-            Ok(have)
-        } else {
-            fill(input, buf, have, at + Section::HEAD + len + 1)
-        },
-        Head::Broken(_) => Ok(have),
+    let Ok(len) = stored::head_at(given(buf, have), at, Tag::JOINTS) else {
+        return Ok(have);
+    };
+    if usize::from(Tokens::LIMIT) < len {
+        return Ok(have);
     }
+    fill(input, buf, have, at + Section::HEAD + len + 1)
 }
 
 // "refuses 3 at 0 at the first length above 256 without reading on": no more is read than what decides the answer.
 fn read_form(input: &mut impl Read, buf: &mut [u8]) -> io::Result<usize> {
     let have = fill(input, buf, 0, Section::HEAD)?;
-    match stored::head_at(first(buf, have), 0, Tag::KINDS) {
-        Head::Length(len) => if (Tokens::LIMIT as usize) < len {
-            Ok(have)
-        } else {
-            read_joints(input, buf, have, Section::HEAD + len)
-        },
-        Head::Broken(_) => Ok(have),
+    let Ok(len) = stored::head_at(given(buf, have), 0, Tag::KINDS) else {
+        return Ok(have);
+    };
+    if usize::from(Tokens::LIMIT) < len {
+        return Ok(have);
     }
+    read_joints(input, buf, have, Section::HEAD + len)
 }
 
 // The bytes of the longest form, and one behind it.
@@ -60,11 +51,11 @@ const TEXT: usize = Text::HEAD + Text::LINE * ROOM;
 fn main(rt: HostRuntime) -> io::Result<()> {
     let mut buf = [0u8; FORM];
     let have = read_form(&mut rt.stdin(), &mut buf)?;
-    let bytes = first(&buf, have);
+    let bytes = given(&buf, have);
     let mut events = [0u64; ROOM];
     let mut steps = [0u32; ROOM];
     let mut out = [0u8; TEXT];
     let held = stored::decode_limited(bytes, Tokens::LIMIT);
     let end = answers::put_held(bytes, held, &mut events, &mut steps, &mut out, 0);
-    rt.write_all(first(&out, end))
+    rt.write_all(given(&out, end))
 }

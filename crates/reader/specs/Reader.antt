@@ -1,29 +1,26 @@
 -- The public reader: the checks of the token list, a reading at strength 1, the pass.
-use Rattle.std.specs.Prelude.{ℕ, List, length, replicate}
+use Rattle.std.specs.Prelude.{Result, Ok, Err, ℕ, List, length, replicate}
 use Rattle.input.specs.Input.{Tokens, depth_limit, tokens_of, on_checked}
 use Rattle.input.specs.declared.Refusal.{Refusal}
 use Rattle.event.specs.Event.{fresh}
 use Rattle.parser.specs.declared.CompletedMarker.{CompletedMarker}
 use Rattle.parser.specs.Prog.{fine, bad, Ran, run, Perhaps}
-use Rattle.process.specs.Process.{process_of}
-use Rattle.process.specs.declared.Processed.{Processed}
-use Rattle.process.specs.declared.Processed.TheVariants as processed
+use Rattle.process.specs.Process.{process_of, Processed}
 use Rattle.grammar.specs.Expressions.{expr_bp}
 use Rattle.reader.specs.declared.Parsed.{Parsed}
-use Rattle.reader.specs.declared.Parsed.TheVariants as parsed
 
 -- "A refusal reports consumed 0, steps 0"
-abbrev pub consumed_of : Parsed → ℕ
-consumed_of (parsed.Steps consumed steps) = consumed
-consumed_of (parsed.Refused r) = 0
+abbrev pub consumed_of : Result Parsed Refusal → ℕ
+consumed_of (Ok got) = got.consumed
+consumed_of (Err r) = 0
 
-abbrev pub steps_of : Parsed → ℕ
-steps_of (parsed.Steps consumed steps) = steps
-steps_of (parsed.Refused r) = 0
+abbrev pub steps_of : Result Parsed Refusal → ℕ
+steps_of (Ok got) = got.steps
+steps_of (Err r) = 0
 
 -- an answer, the event list and the step list
 abbrev pub Answer : Type 0
-Answer = Parsed × List ℕ × List ℕ
+Answer = Result Parsed Refusal × List ℕ × List ℕ
 
 -- "after every other reader answer each lent event entry is 0"
 unfoldable pub cleared : List ℕ → List ℕ
@@ -31,11 +28,11 @@ cleared ev = replicate (length ev) 0
 
 -- "A refusal .. leaves the step list unchanged."
 unfoldable pub refusing : Refusal → List ℕ → List ℕ → Answer
-refusing r ev st = (parsed.Refused r, cleared ev, st)
+refusing r ev st = (Err r, cleared ev, st)
 
 -- 5: "more steps than step room", "consumed count (pass: the state's position)"; "On success the steps stand first in their list, the rest unchanged."
 unfoldable pub on_processed : ℕ → List ℕ → List ℕ → Processed × List ℕ × List ℕ → Answer
-on_processed consumed ev st p = elim p.0 [ processed.Steps n s ↦ (parsed.Steps consumed n, p.1, p.2) | processed.Refused r ↦ refusing r ev st ]
+on_processed consumed ev st p = elim p.0 [ Ok (n, s) ↦ (Ok (record { consumed = consumed; steps = n }), p.1, p.2) | Err r ↦ refusing r ev st ]
 
 unfoldable pub on_read : List ℕ → Ran (Perhaps CompletedMarker) → Answer
 on_read st r = elim r.0 [ fine s m ↦ on_processed s.pos.0 r.1 st (process_of s r.1 st) | bad n ↦ refusing n r.1 st ]
@@ -46,4 +43,4 @@ top_of ts ev = run ts (expr_bp depth_limit ts 1) fresh ev
 
 -- "Order: .. 3, 1, 2, then 4, 6, 7 as the work meets them .., then 5." "After refusals 1, 2, 3 the reader leaves the event list unchanged"
 unfoldable pub parse_of : Tokens → List ℕ → List ℕ → Answer
-parse_of ts ev st = on_checked (tokens_of ts) (λ _. on_read st (top_of ts ev)) (λ r. (parsed.Refused r, ev, st))
+parse_of ts ev st = on_checked (tokens_of ts) (λ _. on_read st (top_of ts ev)) (λ r. (Err r, ev, st))

@@ -1,8 +1,8 @@
 -- "Formula revision compare": "the exact differences in order of place: equal stretches are skipped."
-use Rattle.std.specs.Prelude.{ℕ, zero, suc, ◌+◌, Bool, true, false, List, [], ◌∷◌, ◌++◌, length, get_or, take, drop, ltb, eqb}
+use Rattle.std.specs.Prelude.{Result, Ok, Err, ℕ, zero, suc, ◌+◌, Bool, true, false, List, [], ◌∷◌, ◌++◌, length, get_or, take, drop, ltb, eqb}
 use Rattle.base.specs.Base.{whether}
+use Rattle.input.specs.declared.Refusal.{Refusal}
 use Rattle.reader.specs.declared.Parsed.{Parsed}
-use Rattle.reader.specs.declared.Parsed.TheVariants as parsed
 use Rattle.answers.specs.Text.{decimal_of, line_of, refusal_text}
 
 -- the words of the text, letter by letter
@@ -69,10 +69,10 @@ compared_text a b =
     differs_text a b (common_of a b) ++ extras_text (name_of a b) (common_of a b) (rest_of a b) (length (rest_of a b))
 
 -- "If either list is refused, print that refusal, first list before second, and no differences."
-unfoldable pub second_text : List ℕ → Parsed → List ℕ → List ℕ
-second_text a (parsed.Steps consumed n) st = compared_text a (take n st)
-second_text a (parsed.Refused r) st = refusal_text r
+unfoldable pub second_text : List ℕ → Result Parsed Refusal → List ℕ → List ℕ
+second_text a (Ok got) st = compared_text a (take got.steps st)
+second_text a (Err r) st = refusal_text r
 
-unfoldable pub revisions_text : Parsed → List ℕ → Parsed → List ℕ → List ℕ
-revisions_text (parsed.Steps consumed n) st other st' = second_text (take n st) other st'
-revisions_text (parsed.Refused r) st other st' = refusal_text r
+unfoldable pub revisions_text : Result Parsed Refusal → List ℕ → Result Parsed Refusal → List ℕ → List ℕ
+revisions_text (Ok got) st other st' = second_text (take got.steps st) other st'
+revisions_text (Err r) st other st' = refusal_text r

@@ -3,75 +3,71 @@
 
 ghost use Rattle.std.specs.Prelude.{◌≡◌, ◌+◌, ◌<◌, ◌^◌, length};
 ghost use Rattle.answers.specs.Text.{Put};
-ghost use Rattle.revision.specs.Revision.{pair_text, differ_text, extra_text, step_text, differs_text, extras_text, common_of, rest_of, name_of, same_of, compared_text, second_text, revisions_text};
+ghost use Rattle.answers.specs.Writer.{Wrote};
+ghost use Rattle.revision.specs.Revision.{pair_text, differ_text, extra_text, step_text, differs_text, extras_text, common_of, rest_of, name_of, compared_text, second_text, revisions_text};
 
-use answers::{decimal, given, line, put_refusal, word};
+use answers::{Writer, given};
+use input::Refusal;
 use operand::step_at;
 use reader::Parsed;
 
 // Two numbers at the end of a line.
-fn put_pair(out: &mut [u8], at: usize, x: u64, y: u64) -> usize
-    ensures { Put out.old at (pair_text x y) result out.new }
+fn put_pair(writer: &mut Writer, x: u64, y: u64)
+    ensures { Wrote writer.old (pair_text x y) writer.new }
 {
-    let next = decimal(out, at, x);
-    let next = word(out, next, b" ");
-    line(out, next, y)
+    writer.decimal(x);
+    writer.word(b" ");
+    writer.line(y);
 }
 
 // `INDEX FIRST SECOND`
-fn put_differ(out: &mut [u8], at: usize, i: usize, x: u32, y: u32) -> usize
-    ensures { Put out.old at (differ_text i x y) result out.new }
+fn put_differ(writer: &mut Writer, i: usize, x: u32, y: u32)
+    ensures { Wrote writer.old (differ_text i x y) writer.new }
 {
-    let next = decimal(out, at, i as u64);
-    let next = word(out, next, b" ");
-    put_pair(out, next, x as u64, y as u64)
+    writer.decimal(i as u64);
+    writer.word(b" ");
+    put_pair(writer, u64::from(x), u64::from(y));
 }
 
 // `first INDEX VALUE` or `second INDEX VALUE`
-fn put_extra(out: &mut [u8], at: usize, name: &[u8], i: usize, x: u32) -> usize
-    ensures { Put out.old at (extra_text name.now i x) result out.new }
+fn put_extra(writer: &mut Writer, name: &[u8], i: usize, x: u32)
+    ensures { Wrote writer.old (extra_text name.now i x) writer.new }
 {
-    let next = word(out, at, name);
-    put_pair(out, next, i as u64, x as u64)
+    writer.word(name);
+    put_pair(writer, i as u64, u64::from(x));
 }
 
 // What the step at an index prints: nothing where both are the same.
-fn put_step(out: &mut [u8], at: usize, first: &[u32], second: &[u32], i: usize) -> usize
-    ensures { Put out.old at (step_text first.now second.now i) result out.new }
+#[tactic(auto, using(crate::proofs::Laws::put_other, crate::proofs::Laws::put_same))]
+fn put_step(writer: &mut Writer, first: &[u32], second: &[u32], i: usize)
+    ensures { Wrote writer.old (step_text first.now second.now i) writer.new }
 {
     let x = step_at(first, i);
     let y = step_at(second, i);
-    if x == y {
-        return at;
+    if x != y {
+        put_differ(writer, i, x, y);
     }
-    put_differ(out, at, i, x, y)
 }
 
 // The differences of the first `n` steps.
-fn put_differs(out: &mut [u8], at: usize, first: &[u32], second: &[u32], n: usize) -> usize
-    ensures { Put out.old at (differs_text first.now second.now n) result out.new }
+fn put_differs(writer: &mut Writer, first: &[u32], second: &[u32], n: usize)
+    ensures { Wrote writer.old (differs_text first.now second.now n) writer.new }
 {
-    let mut end = at;
-    let mut i: usize = 0;
-    while i < n {
-        end = put_step(out, end, first, second, i);
-        i = i + 1;
+    for i in 0..n {
+        put_step(writer, first, second, i);
     }
-    end
 }
 
 // How far both lists go.
+#[tactic(auto, using(crate::proofs::Laws::common_is))]
 fn common(first: &[u32], second: &[u32]) -> usize
     ensures { result ≡ common_of first.now second.now }
 {
-    if first.len() < second.len() {
-        first.len()
-    } else {
-        second.len()
-    }
+    first.len().min(second.len())
 }
 
 // The unread rest of whichever list runs longer, behind where the other ends.
+#[tactic(auto, using(crate::proofs::Laws::rest_second, crate::proofs::Laws::rest_first))]
 pub fn rest<'a>(first: &'a [u32], second: &'a [u32]) -> &'a [u32]
     ensures { result.now ≡ rest_of first.now second.now }
 {
@@ -82,89 +78,89 @@ pub fn rest<'a>(first: &'a [u32], second: &'a [u32]) -> &'a [u32]
     }
 }
 
-fn same(first: &[u32], second: &[u32]) -> bool
-    ensures { result ≡ same_of first.now second.now }
-{
-    if first.len() != second.len() {
-        return false;
-    }
-    let mut i: usize = 0;
-    while i < first.len() {
-        if step_at(first, i) == step_at(second, i) {
-            i = i + 1;
-        } else {
-            return false;
-        }
-    }
-    true
-}
-
 // The steps of a rest that begins at an index, as extra.
-fn put_extras(out: &mut [u8], at: usize, name: &[u8], from: usize, rest: &[u32]) -> usize
+fn put_extras(writer: &mut Writer, name: &[u8], from: usize, rest: &[u32])
     requires { from + length rest.now < 2 ^ 64 }
-    ensures { Put out.old at (extras_text name.now from rest.now (length rest.now)) result out.new }
+    ensures { Wrote writer.old (extras_text name.now from rest.now (length rest.now)) writer.new }
 {
-    let mut end = at;
-    let mut i: usize = 0;
-    while i < rest.len() {
-        end = put_extra(out, end, name, from + i, step_at(rest, i));
-        i = i + 1;
+    for (i, &x) in rest.iter().enumerate() {
+        put_extra(writer, name, from + i, x);
     }
-    end
 }
 
 // The extra steps of the longer list, under its name.
-fn put_rest<'a>(out: &mut [u8], at: usize, first: &'a [u32], second: &'a [u32]) -> usize
-    ensures { Put out.old at (extras_text (name_of first.now second.now) (common_of first.now second.now) (rest_of first.now second.now) (length (rest_of first.now second.now))) result out.new }
+#[tactic(auto, using(crate::proofs::Laws::rest_fits, crate::proofs::Laws::extra_second, crate::proofs::Laws::extra_first))]
+fn put_rest(writer: &mut Writer, first: &[u32], second: &[u32])
+    ensures { Wrote writer.old (extras_text (name_of first.now second.now) (common_of first.now second.now) (rest_of first.now second.now) (length (rest_of first.now second.now))) writer.new }
 {
     let n = common(first, second);
     let tail = rest(first, second);
     if first.len() < second.len() {
-        return put_extras(out, at, b"second ", n, tail);
+        put_extras(writer, b"second ", n, tail);
+    } else {
+        put_extras(writer, b"first ", n, tail);
     }
-    put_extras(out, at, b"first ", n, tail)
+}
+
+fn write_compared(writer: &mut Writer, first: &[u32], second: &[u32])
+    ensures { Wrote writer.old (compared_text first.now second.now) writer.new }
+{
+    let same = first == second;
+    if same {
+        writer.word(b"equal\n");
+    } else {
+        put_differs(writer, first, second, common(first, second));
+        put_rest(writer, first, second);
+    }
 }
 
 // The exact differences of two step lists, or `equal`, as far as they fit from `at` on; answers where the text ends.
-pub fn put_compared<'a>(out: &mut [u8], at: usize, first: &'a [u32], second: &'a [u32]) -> usize
+pub fn put_compared(out: &mut [u8], at: usize, first: &[u32], second: &[u32]) -> usize
     ensures { Put out.old at (compared_text first.now second.now) result out.new }
 {
-    if same(first, second) {
-        return word(out, at, b"equal\n");
-    }
-    let n = common(first, second);
-    let next = put_differs(out, at, first, second, n);
-    put_rest(out, next, first, second)
+    let mut writer = Writer::new(out, at);
+    write_compared(&mut writer, first, second);
+    writer.end
 }
 
-fn put_second<'a>(
-    out: &mut [u8],
-    at: usize,
-    first: &'a [u32],
-    answer: Parsed,
-    steps: &'a [u32],
-) -> usize
-    ensures { Put out.old at (second_text first.now answer steps.now) result out.new }
+#[tactic(auto, using(crate::proofs::Laws::second_read, crate::proofs::Laws::second_refused))]
+fn put_second(writer: &mut Writer, first: &[u32], answer: Result<Parsed, Refusal>, steps: &[u32])
+    ensures { Wrote writer.old (second_text first.now answer steps.now) writer.new }
 {
     match answer {
-        Parsed::Steps(_, count) => put_compared(out, at, first, given(steps, count)),
-        Parsed::Refused(refusal) => put_refusal(out, at, refusal),
+        Ok(parsed) => write_compared(writer, first, given(steps, parsed.steps)),
+        Err(refusal) => writer.refusal(refusal),
+    }
+}
+
+#[tactic(auto, using(crate::proofs::Laws::first_read, crate::proofs::Laws::first_refused))]
+fn write_revisions(
+    writer: &mut Writer,
+    answer: Result<Parsed, Refusal>,
+    steps: &[u32],
+    other: Result<Parsed, Refusal>,
+    other_steps: &[u32],
+)
+    ensures { Wrote writer.old (revisions_text answer steps.now other other_steps.now) writer.new }
+{
+    match answer {
+        Ok(parsed) => put_second(writer, given(steps, parsed.steps), other, other_steps),
+        Err(refusal) => writer.refusal(refusal),
     }
 }
 
 // The text of two readers' answers: a refusal, the first list's before the second's, or the differences.
-pub fn put_revisions<'a>(
+pub fn put_revisions(
     out: &mut [u8],
     at: usize,
-    answer: Parsed,
-    steps: &'a [u32],
-    other: Parsed,
-    other_steps: &'a [u32],
+    answer: Result<Parsed, Refusal>,
+    steps: &[u32],
+    other: Result<Parsed, Refusal>,
+    other_steps: &[u32],
 ) -> usize
     ensures { Put out.old at (revisions_text answer steps.now other other_steps.now) result out.new }
 {
-    match answer {
-        Parsed::Steps(_, count) => put_second(out, at, given(steps, count), other, other_steps),
-        Parsed::Refused(refusal) => put_refusal(out, at, refusal),
-    }
+    let mut writer = Writer::new(out, at);
+    write_revisions(&mut writer, answer, steps, other, other_steps);
+    writer.end
 }

@@ -2,28 +2,28 @@
 // and stands in `stdout`.
 #![tactic(auto)]
 
+use answers::given;
 use input::Refusal;
 use reader::Parsed;
 use std::io;
-use stored::Span;
 
 fn print(rt: &impl Print, out: &[u8], end: usize) -> io::Result<()> {
-    rt.write_all(stored::part(out, Span { at: 0, len: end }))?;
+    rt.write_all(given(out, end))?;
     rt.write_all(b"--\n")
 }
 
-fn show<'a>(rt: &impl Print, first: &'a [u32], second: &'a [u32]) -> io::Result<()> {
+fn show(rt: &impl Print, first: &[u32], second: &[u32]) -> io::Result<()> {
     let mut out = [0u8; 256];
     let end = revision::put_compared(&mut out, 0, first, second);
     print(rt, &out, end)
 }
 
-fn show_answers<'a>(
+fn show_answers(
     rt: &impl Print,
-    answer: Parsed,
-    steps: &'a [u32],
-    other: Parsed,
-    other_steps: &'a [u32],
+    answer: Result<Parsed, Refusal>,
+    steps: &[u32],
+    other: Result<Parsed, Refusal>,
+    other_steps: &[u32],
 ) -> io::Result<()> {
     let mut out = [0u8; 256];
     let end = revision::put_revisions(&mut out, 0, answer, steps, other, other_steps);
@@ -44,30 +44,22 @@ fn lists(rt: &impl Print) -> io::Result<()> {
     show(rt, &[0], &[0, 0])
 }
 
-fn refused(number: u8, place: usize) -> Parsed {
-    Parsed::Refused(Refusal { number, place })
+fn read(consumed: usize, steps: usize) -> Result<Parsed, Refusal> {
+    Ok(Parsed { consumed, steps })
+}
+
+fn refused(number: u8, place: usize) -> Result<Parsed, Refusal> {
+    Err(Refusal { number, place })
 }
 
 // Of answers: only the steps given count; a refusal of the first list stands before one of the second.
 fn answered(rt: &impl Print) -> io::Result<()> {
+    show_answers(rt, read(1, 2), &[5, 6, 7], read(1, 2), &[5, 6, 8])?;
+    show_answers(rt, read(1, 3), &[5, 6, 7], read(2, 3), &[5, 6, 8])?;
+    show_answers(rt, refused(7, 3), &[5], read(1, 1), &[6])?;
     show_answers(
         rt,
-        Parsed::Steps(1, 2),
-        &[5, 6, 7],
-        Parsed::Steps(1, 2),
-        &[5, 6, 8],
-    )?;
-    show_answers(
-        rt,
-        Parsed::Steps(1, 3),
-        &[5, 6, 7],
-        Parsed::Steps(2, 3),
-        &[5, 6, 8],
-    )?;
-    show_answers(rt, refused(7, 3), &[5], Parsed::Steps(1, 1), &[6])?;
-    show_answers(
-        rt,
-        Parsed::Steps(1, 1),
+        read(1, 1),
         &[5],
         refused(10, 18446744073709551615),
         &[6],

@@ -1,6 +1,7 @@
 -- The cases of `head_of` and `section_of`, each with what it shows of the bytes. A head that gives a length stands whole in the bytes, and a
 -- section that gives its payload ends in them.
 -- Assumes nothing.
+use Rattle.std.proofs.Common.{Result, Ok}
 use mathlib.Core.Path.{◌≡◌, refl, sym, subst, ◌∙◌}
 use Prim.Native.Nat.{ℕ, ◌+◌, ◌-◌, ◌≤◌, ◌<◌}
 use mathlib.Core.List.{List}
@@ -10,20 +11,17 @@ use lib.Dec.{ltb, leb, eqb}
 use borrow.Author.Tests.{ltb-true, ltb-false, leb-true, leb-false, eqb-true, eqb-false}
 use Rattle.base.specs.Base.{whether}
 use Rattle.base.proofs.Cases.{whether_by}
-use Rattle.stored.specs.Stored.{on_head, head_of, section_of, head_length, end_of}
+use Rattle.stored.specs.Stored.{broken_at, on_head, head_of, section_of, head_length, end_of}
 use Rattle.stored.specs.Valid.{Headed}
-use Rattle.stored.specs.declared.Head.{Head}
-use Rattle.stored.specs.declared.Head.TheVariants as head
 use Rattle.stored.specs.declared.Span.{Span}
-use Rattle.stored.specs.declared.Section.{Section}
-use Rattle.stored.specs.declared.Section.TheVariants as section
+use Rattle.stored.specs.declared.Broken.{Broken}
 
 -- the cases of a head
-pub data HeadSays (bs : List ℕ) (at tag : ℕ) : Head → Type 0 where
-  head_ended : length bs ≤ at → HeadSays bs at tag (head.Broken (length bs))
-  head_other : at < length bs → (get_or bs at 0 ≡ tag → ⊥) → HeadSays bs at tag (head.Broken at)
-  head_short : at < length bs → get_or bs at 0 ≡ tag → length bs < at + head_length → HeadSays bs at tag (head.Broken (length bs))
-  head_full : {n : ℕ} → Headed bs at tag n → HeadSays bs at tag (head.Length n)
+pub data HeadSays (bs : List ℕ) (at tag : ℕ) : Result ℕ Broken → Type 0 where
+  head_ended : length bs ≤ at → HeadSays bs at tag (broken_at (length bs))
+  head_other : at < length bs → (get_or bs at 0 ≡ tag → ⊥) → HeadSays bs at tag (broken_at at)
+  head_short : at < length bs → get_or bs at 0 ≡ tag → length bs < at + head_length → HeadSays bs at tag (broken_at (length bs))
+  head_full : {n : ℕ} → Headed bs at tag n → HeadSays bs at tag (Ok n)
 
 pub head_says : (bs : List ℕ) (at tag : ℕ) → HeadSays bs at tag (head_of bs at tag)
 unfolding head_of
@@ -38,16 +36,16 @@ head_says bs at tag =
     (λ l. head_full (record { fits = omega (arith, ltb-false (length bs - at) head_length l); tagged = same; counted = refl })))
     (λ e. head_other inside (eqb-false (get_or bs at 0) tag e)))
 
-pub headed_of : {bs : List ℕ} {at tag n : ℕ} {x : Head} → HeadSays bs at tag x → x ≡ head.Length n → Headed bs at tag n
+pub headed_of : {bs : List ℕ} {at tag n : ℕ} {x : Result ℕ Broken} → HeadSays bs at tag x → x ≡ Ok n → Headed bs at tag n
 headed_of (head_ended h) q = let z : ◌≡◌ {A = ℕ} 0 1 = cc in absurd (omega arith)
 headed_of (head_other h e) q = let z : ◌≡◌ {A = ℕ} 0 1 = cc in absurd (omega arith)
 headed_of (head_short h e l) q = let z : ◌≡◌ {A = ℕ} 0 1 = cc in absurd (omega arith)
 headed_of {n = n} (head_full {n = m} h) q = let same : m ≡ n = cc in record { fits = h.fits; tagged = h.tagged; counted = h.counted ∙ same }
 
-pub headed : (bs : List ℕ) (at tag : ℕ) {n : ℕ} → head_of bs at tag ≡ head.Length n → Headed bs at tag n
+pub headed : (bs : List ℕ) (at tag : ℕ) {n : ℕ} → head_of bs at tag ≡ Ok n → Headed bs at tag n
 headed bs at tag q = headed_of (head_says bs at tag) q
 
-pub head_fits : (bs : List ℕ) (at tag : ℕ) {n : ℕ} {x : Head} → x ≡ head_of bs at tag → x ≡ head.Length n → at + head_length ≤ length bs
+pub head_fits : (bs : List ℕ) (at tag : ℕ) {n : ℕ} {x : Result ℕ Broken} → x ≡ head_of bs at tag → x ≡ Ok n → at + head_length ≤ length bs
 head_fits bs at tag p q = (headed bs at tag (sym p ∙ q)).fits
 
 -- what a section that gives its payload shows of the bytes
@@ -57,14 +55,14 @@ pub record Sectioned (bs : List ℕ) (at tag : ℕ) (s : Span) : Type 0 where
   pub fits : end_of s ≤ length bs
 
 -- the cases of a section
-pub data SectionSays (bs : List ℕ) (at tag : ℕ) : Section → Type 0 where
-  ended : length bs ≤ at → SectionSays bs at tag (section.Broken (length bs))
-  other : at < length bs → (get_or bs at 0 ≡ tag → ⊥) → SectionSays bs at tag (section.Broken at)
-  short : at < length bs → get_or bs at 0 ≡ tag → length bs < at + head_length → SectionSays bs at tag (section.Broken (length bs))
-  cut : {n : ℕ} → Headed bs at tag n → length bs < at + head_length + n → SectionSays bs at tag (section.Broken (length bs))
-  full : {s : Span} → Sectioned bs at tag s → SectionSays bs at tag (section.Payload s)
+pub data SectionSays (bs : List ℕ) (at tag : ℕ) : Result Span Broken → Type 0 where
+  ended : length bs ≤ at → SectionSays bs at tag (broken_at (length bs))
+  other : at < length bs → (get_or bs at 0 ≡ tag → ⊥) → SectionSays bs at tag (broken_at at)
+  short : at < length bs → get_or bs at 0 ≡ tag → length bs < at + head_length → SectionSays bs at tag (broken_at (length bs))
+  cut : {n : ℕ} → Headed bs at tag n → length bs < at + head_length + n → SectionSays bs at tag (broken_at (length bs))
+  full : {s : Span} → Sectioned bs at tag s → SectionSays bs at tag (Ok s)
 
-section_says_at : (bs : List ℕ) (at tag : ℕ) (h : Head) → HeadSays bs at tag h → SectionSays bs at tag (on_head h (λ n. whether (ltb (length bs - at - head_length) n) (λ _. section.Broken (length bs)) (λ _. section.Payload (record { at = at + head_length; len = n }))) (λ p. section.Broken p))
+section_says_at : (bs : List ℕ) (at tag : ℕ) (h : Result ℕ Broken) → HeadSays bs at tag h → SectionSays bs at tag (on_head h (λ n. whether (ltb (length bs - at - head_length) n) (λ _. broken_at (length bs)) (λ _. Ok (record { at = at + head_length; len = n }))) (λ p. broken_at p))
 unfolding on_head
 section_says_at bs at tag _ (head_ended h) = ended h
 section_says_at bs at tag _ (head_other h e) = other h e
@@ -78,15 +76,15 @@ pub section_says : (bs : List ℕ) (at tag : ℕ) → SectionSays bs at tag (sec
 unfolding section_of
 section_says bs at tag = section_says_at bs at tag (head_of bs at tag) (head_says bs at tag)
 
-sectioned_of : {bs : List ℕ} {at tag : ℕ} {s : Span} {x : Section} → SectionSays bs at tag x → x ≡ section.Payload s → Sectioned bs at tag s
+sectioned_of : {bs : List ℕ} {at tag : ℕ} {s : Span} {x : Result Span Broken} → SectionSays bs at tag x → x ≡ Ok s → Sectioned bs at tag s
 sectioned_of (ended h) q = let z : ◌≡◌ {A = ℕ} 0 1 = cc in absurd (omega arith)
 sectioned_of (other h e) q = let z : ◌≡◌ {A = ℕ} 0 1 = cc in absurd (omega arith)
 sectioned_of (short h e l) q = let z : ◌≡◌ {A = ℕ} 0 1 = cc in absurd (omega arith)
 sectioned_of (cut h l) q = let z : ◌≡◌ {A = ℕ} 0 1 = cc in absurd (omega arith)
 sectioned_of {bs} {at} {tag} {s} (full {s = r} h) q = let same : r ≡ s = cc in subst (λ (z : Span). Sectioned bs at tag z) same h
 
-pub sectioned : (bs : List ℕ) (at tag : ℕ) {s : Span} → section_of bs at tag ≡ section.Payload s → Sectioned bs at tag s
+pub sectioned : (bs : List ℕ) (at tag : ℕ) {s : Span} → section_of bs at tag ≡ Ok s → Sectioned bs at tag s
 sectioned bs at tag q = sectioned_of (section_says bs at tag) q
 
-pub section_fits : (bs : List ℕ) (at tag : ℕ) {s : Span} {x : Section} → x ≡ section_of bs at tag → x ≡ section.Payload s → end_of s ≤ length bs
+pub section_fits : (bs : List ℕ) (at tag : ℕ) {s : Span} {x : Result Span Broken} → x ≡ section_of bs at tag → x ≡ Ok s → end_of s ≤ length bs
 section_fits bs at tag p q = (sectioned bs at tag (sym p ∙ q)).fits

@@ -1,6 +1,7 @@
 -- The rules accept exactly the encodings: encode then decode is the identity, and what is accepted is the encoding of what it gives.
 -- By what a section of an encoding shows, and by what a section that is found is.
 -- Assumes nothing.
+use Rattle.std.proofs.Common.{Result, Ok}
 use mathlib.Core.Path.{◌≡◌, refl, sym, ap, subst, ◌∙◌}
 use mathlib.Core.List.{List, [], ◌++◌, append-nil, append_assoc}
 use Prim.Native.Nat.{ℕ, ◌+◌, ◌≤◌, ◌<◌}
@@ -11,8 +12,7 @@ use Rattle.stored.specs.Stored.{Decodes, encode, encode_section, first_of, store
 use Rattle.stored.specs.Valid.{Bytes, Valid, form_of}
 use Rattle.stored.specs.declared.Form.{Form}
 use Rattle.stored.specs.declared.Span.{Span}
-use Rattle.stored.specs.declared.Stored.{Stored}
-use Rattle.stored.specs.declared.Stored.TheVariants as stored
+use Rattle.stored.specs.declared.Broken.{Broken}
 use Rattle.stored.proofs.Sections.{encoded_sectioned, length_encode_section, sectioned_written, length_counted, part_fits, part_length}
 use Rattle.stored.proofs.Forms.{Formed, FirstSays, no_kinds, no_joints, found, first_says, first_found, StoredSays, no_first, after, all, stored_says, stored_found}
 
@@ -38,14 +38,14 @@ formed_encode ks js ys =
     })
 
 -- a form that stands first is found, whatever follows it
-pub first_encode : (ks js ys : List ℕ) → first_of (encode ks js ++ ys) ≡ stored.Whole (form_of ks js)
+pub first_encode : (ks js ys : List ℕ) → first_of (encode ks js ++ ys) ≡ Ok (form_of ks js)
 first_encode ks js ys = first_found (formed_encode ks js ys)
 
 formed_alone : (ks js : List ℕ) → Formed (encode ks js) (form_of ks js)
 formed_alone ks js = subst (λ (z : List ℕ). Formed z (form_of ks js)) (append-nil (encode ks js)) (formed_encode ks js [])
 
 -- encode then decode: where the parts stand
-pub decode_encode : (ks js : List ℕ) → stored_of (encode ks js) ≡ stored.Whole (form_of ks js)
+pub decode_encode : (ks js : List ℕ) → stored_of (encode ks js) ≡ Ok (form_of ks js)
 decode_encode ks js = stored_found (formed_alone ks js) (sym (length_encode ks js))
 
 span_part : (xs ys zs : List ℕ) (s : Span) → s.at ≡ length xs → s.len ≡ length ys → part_of (xs ++ (ys ++ zs)) s ≡ ys
@@ -102,13 +102,13 @@ formed_counted {bs} {f} b h =
     let few_joints : f.joints.len < length_values = length_counted b h.joints.head in
     (omega (arith, part_length bs f.kinds h.kinds.fits), omega (arith, part_length bs f.joints h.joints.fits))
 
-formed_of_first : {bs : List ℕ} {f : Form} {x : Stored} → FirstSays bs x → x ≡ stored.Whole f → Formed bs f
+formed_of_first : {bs : List ℕ} {f : Form} {x : Result Form Broken} → FirstSays bs x → x ≡ Ok f → Formed bs f
 formed_of_first (no_kinds h) q = let z : ◌≡◌ {A = ℕ} 0 1 = cc in absurd (omega arith)
 formed_of_first (no_joints h e) q = let z : ◌≡◌ {A = ℕ} 0 1 = cc in absurd (omega arith)
 formed_of_first {bs} {f} (found {f = g} h) q = let same : g ≡ f = cc in subst (λ (z : Form). Formed bs z) same h
 
 -- what a form that is found first shows
-pub first_formed : (bs : List ℕ) {f : Form} → first_of bs ≡ stored.Whole f → Formed bs f
+pub first_formed : (bs : List ℕ) {f : Form} → first_of bs ≡ Ok f → Formed bs f
 first_formed bs q = formed_of_first (first_says bs) q
 
 -- a form that stands alone in its bytes
@@ -116,23 +116,23 @@ pub record Alone (bs : List ℕ) (f : Form) : Type 0 where
   pub formed : Formed bs f
   pub ended : f.end ≡ length bs
 
-formed_of_stored : {bs : List ℕ} {f : Form} {x : Stored} → StoredSays bs x → x ≡ stored.Whole f → Alone bs f
+formed_of_stored : {bs : List ℕ} {f : Form} {x : Result Form Broken} → StoredSays bs x → x ≡ Ok f → Alone bs f
 formed_of_stored (no_first e h) q = let z : ◌≡◌ {A = ℕ} 0 1 = cc in absurd (omega arith)
 formed_of_stored (after h l) q = let z : ◌≡◌ {A = ℕ} 0 1 = cc in absurd (omega arith)
 formed_of_stored {bs} {f} (all {f = g} h e) q = let same : g ≡ f = cc in subst (λ (z : Form). Alone bs z) same (record { formed = h; ended = e })
 
-pub stored_formed : (bs : List ℕ) {f : Form} → stored_of bs ≡ stored.Whole f → Alone bs f
+pub stored_formed : (bs : List ℕ) {f : Form} → stored_of bs ≡ Ok f → Alone bs f
 stored_formed bs q = formed_of_stored (stored_says bs) q
 
 -- what is accepted is the encoding of what it gives
-pub accepted_is_encoding : (bs : List ℕ) (f : Form) → Bytes bs → stored_of bs ≡ stored.Whole f → bs ≡ encode (kinds_of bs f) (joints_of bs f)
+pub accepted_is_encoding : (bs : List ℕ) (f : Form) → Bytes bs → stored_of bs ≡ Ok f → bs ≡ encode (kinds_of bs f) (joints_of bs f)
 accepted_is_encoding bs f b q =
     let alone : Alone bs f = stored_formed bs q in
     let upto : length bs ≤ f.end = omega (arith, alone.ended) in
     sym (take_all f.end bs upto) ∙ formed_written b alone.formed
 
 -- a form that is found first is the encoding of what it gives, and the rest follows it
-pub first_is_encoding : (bs : List ℕ) (f : Form) → Bytes bs → first_of bs ≡ stored.Whole f → bs ≡ encode (kinds_of bs f) (joints_of bs f) ++ drop f.end bs
+pub first_is_encoding : (bs : List ℕ) (f : Form) → Bytes bs → first_of bs ≡ Ok f → bs ≡ encode (kinds_of bs f) (joints_of bs f) ++ drop f.end bs
 first_is_encoding bs f b q = sym (take-append-drop f.end bs) ∙ ap (λ (z : List ℕ). z ++ drop f.end bs) (formed_written b (first_formed bs q))
 
 -- encode then decode is the identity
@@ -144,11 +144,11 @@ pub decode_then_encode : {bs ks js : List ℕ} → Bytes bs → Decodes bs ks js
 decode_then_encode {bs} {ks} {js} b d = cc (accepted_is_encoding bs d.form b d.accepted, d.its_kinds, d.its_joints)
 
 -- two bytes count the kinds and the joints of a form that is found
-pub first_counted : (bs : List ℕ) (f : Form) → Bytes bs → first_of bs ≡ stored.Whole f → (length (kinds_of bs f) < length_values) × (length (joints_of bs f) < length_values)
+pub first_counted : (bs : List ℕ) (f : Form) → Bytes bs → first_of bs ≡ Ok f → (length (kinds_of bs f) < length_values) × (length (joints_of bs f) < length_values)
 first_counted bs f b q = formed_counted b (first_formed bs q)
 
 -- what is accepted is valid
-pub accepted_is_valid : (bs : List ℕ) (f : Form) → Bytes bs → stored_of bs ≡ stored.Whole f → Valid bs
+pub accepted_is_valid : (bs : List ℕ) (f : Form) → Bytes bs → stored_of bs ≡ Ok f → Valid bs
 accepted_is_valid bs f b q =
     let counted = formed_counted b (stored_formed bs q).formed in
     record {
@@ -161,27 +161,27 @@ accepted_is_valid bs f b q =
     }
 
 -- what is valid is accepted
-pub valid_is_accepted : {bs : List ℕ} (v : Valid bs) → stored_of bs ≡ stored.Whole (form_of v.kinds v.joints)
+pub valid_is_accepted : {bs : List ℕ} (v : Valid bs) → stored_of bs ≡ Ok (form_of v.kinds v.joints)
 valid_is_accepted v = ap stored_of v.written ∙ decode_encode v.kinds v.joints
 
 -- for callers
 
 -- a form that stands first ends within the bytes, and reading forms one after the other goes on
-pub first_ends_within : (bs : List ℕ) {f : Form} {x : Stored} → x ≡ first_of bs → x ≡ stored.Whole f → f.end ≤ length bs
+pub first_ends_within : (bs : List ℕ) {f : Form} {x : Result Form Broken} → x ≡ first_of bs → x ≡ Ok f → f.end ≤ length bs
 first_ends_within bs {f} p q = let h : Formed bs f = first_formed bs (sym p ∙ q) in omega (arith, h.ends, h.joints.fits)
 
-pub first_goes_on : (bs : List ℕ) {f : Form} {x : Stored} → x ≡ first_of bs → x ≡ stored.Whole f → 0 < f.end
+pub first_goes_on : (bs : List ℕ) {f : Form} {x : Result Form Broken} → x ≡ first_of bs → x ≡ Ok f → 0 < f.end
 first_goes_on bs {f} p q = let h : Formed bs f = first_formed bs (sym p ∙ q) in omega (arith, h.ends, h.joints.start)
 
 -- the parts are as long as the form says
-pub kinds_length : (bs : List ℕ) {f : Form} {x : Stored} → x ≡ first_of bs → x ≡ stored.Whole f → length (kinds_of bs f) ≡ f.kinds.len
+pub kinds_length : (bs : List ℕ) {f : Form} {x : Result Form Broken} → x ≡ first_of bs → x ≡ Ok f → length (kinds_of bs f) ≡ f.kinds.len
 unfolding kinds_of
 kinds_length bs {f} p q = part_length bs f.kinds (first_formed bs (sym p ∙ q)).kinds.fits
 
-pub joints_length : (bs : List ℕ) {f : Form} {x : Stored} → x ≡ first_of bs → x ≡ stored.Whole f → length (joints_of bs f) ≡ f.joints.len
+pub joints_length : (bs : List ℕ) {f : Form} {x : Result Form Broken} → x ≡ first_of bs → x ≡ Ok f → length (joints_of bs f) ≡ f.joints.len
 unfolding joints_of
 joints_length bs {f} p q = part_length bs f.joints (first_formed bs (sym p ∙ q)).joints.fits
 
 -- a form that stands alone is one that stands first
-pub stored_is_first : (bs : List ℕ) {f : Form} → stored_of bs ≡ stored.Whole f → first_of bs ≡ stored.Whole f
+pub stored_is_first : (bs : List ℕ) {f : Form} → stored_of bs ≡ Ok f → first_of bs ≡ Ok f
 stored_is_first bs q = first_found (stored_formed bs q).formed

@@ -1,6 +1,7 @@
 -- Sections as lists: a section of an encoding is found where it stands, a section that is found is the encoding of its payload, and one
 -- that is not found can be completed. By the cases of `section_of`.
 -- Assumes nothing.
+use Rattle.std.proofs.Common.{Result, Ok}
 use mathlib.Core.Path.{◌≡◌, refl, sym, ap, subst, ◌∙◌}
 use Prim.Native.Nat.{ℕ, suc, ◌+◌, ◌-◌, ◌*◌, ◌/◌, ◌%◌, ◌≤◌, ◌<◌}
 use mathlib.Core.List.{List, [], ◌∷◌, ◌++◌, append_assoc}
@@ -12,29 +13,27 @@ use lib.Dec.{ltb}
 use mathlib.Core.Bool.{Bool, true, false}
 use borrow.Author.Tests.{le-leb, ltb-true, ltb-false}
 use Rattle.base.specs.Base.{pick}
-use Rattle.stored.specs.Stored.{head_of, section_of, length_of, head_length, end_of, encode_section, byte_values, length_values, part_of}
+use Rattle.stored.specs.Stored.{broken_at, head_of, section_of, length_of, head_length, end_of, encode_section, byte_values, length_values, part_of}
 use Rattle.stored.specs.Valid.{Bytes, Headed}
-use Rattle.stored.specs.declared.Head.{Head}
-use Rattle.stored.specs.declared.Head.TheVariants as head
 use Rattle.stored.specs.declared.Span.{Span}
-use Rattle.stored.specs.declared.Section.{Section}
-use Rattle.stored.specs.declared.Section.TheVariants as section
+use Rattle.stored.specs.declared.Broken.{Broken}
 use Rattle.stored.proofs.Bytes.{bytes_nil, bytes_cons, bytes_zeros}
+use Rattle.stored.proofs.Laws.{same_place}
 use Rattle.stored.proofs.Cases.{HeadSays, head_ended, head_other, head_short, head_full, head_says}
 use Rattle.stored.proofs.Cases.{Sectioned, SectionSays, ended, other, short, cut, full, section_says}
 
 -- what a head and a section are found by
 
-head_found_of : {bs : List ℕ} {at tag n : ℕ} {x : Head} → HeadSays bs at tag x → Headed bs at tag n → x ≡ head.Length n
+head_found_of : {bs : List ℕ} {at tag n : ℕ} {x : Result ℕ Broken} → HeadSays bs at tag x → Headed bs at tag n → x ≡ Ok n
 head_found_of (head_ended h) g = absurd (omega (arith, g.fits))
 head_found_of (head_other h e) g = absurd (e g.tagged)
 head_found_of (head_short h e l) g = absurd (omega (arith, g.fits))
-head_found_of (head_full h) g = ap head.Length (sym h.counted ∙ g.counted)
+head_found_of (head_full h) g = ap Ok (sym h.counted ∙ g.counted)
 
-pub head_found : {bs : List ℕ} {at tag n : ℕ} → Headed bs at tag n → head_of bs at tag ≡ head.Length n
+pub head_found : {bs : List ℕ} {at tag n : ℕ} → Headed bs at tag n → head_of bs at tag ≡ Ok n
 head_found {bs} {at} {tag} g = head_found_of (head_says bs at tag) g
 
-section_found_of : {bs : List ℕ} {at tag : ℕ} {s : Span} {x : Section} → SectionSays bs at tag x → Sectioned bs at tag s → x ≡ section.Payload s
+section_found_of : {bs : List ℕ} {at tag : ℕ} {s : Span} {x : Result Span Broken} → SectionSays bs at tag x → Sectioned bs at tag s → x ≡ Ok s
 section_found_of (ended h) g = absurd (omega (arith, g.head.fits))
 section_found_of (other h e) g = absurd (e g.head.tagged)
 section_found_of (short h e l) g = absurd (omega (arith, g.head.fits))
@@ -42,12 +41,12 @@ section_found_of (cut h l) g = absurd (omega (arith, g.fits, g.start, h.counted,
 section_found_of {s = s} (full {s = r} h) g =
     let starts : r.at ≡ s.at = h.start ∙ sym g.start in
     let counts : r.len ≡ s.len = sym h.head.counted ∙ g.head.counted in
-    ap section.Payload (ap (λ (z : ℕ). record { at = z; len = r.len }) starts ∙ ap (λ (z : ℕ). record { at = s.at; len = z }) counts)
+    ap Ok (ap (λ (z : ℕ). record { at = z; len = r.len }) starts ∙ ap (λ (z : ℕ). record { at = s.at; len = z }) counts)
 
-pub section_found : {bs : List ℕ} {at tag : ℕ} {s : Span} → Sectioned bs at tag s → section_of bs at tag ≡ section.Payload s
+pub section_found : {bs : List ℕ} {at tag : ℕ} {s : Span} → Sectioned bs at tag s → section_of bs at tag ≡ Ok s
 section_found {bs} {at} {tag} g = section_found_of (section_says bs at tag) g
 
-section_other_of : {bs : List ℕ} {at tag : ℕ} {x : Section} → SectionSays bs at tag x → at < length bs → (get_or bs at 0 ≡ tag → ⊥) → x ≡ section.Broken at
+section_other_of : {bs : List ℕ} {at tag : ℕ} {x : Result Span Broken} → SectionSays bs at tag x → at < length bs → (get_or bs at 0 ≡ tag → ⊥) → x ≡ broken_at at
 section_other_of (ended h) l e = absurd (omega arith)
 section_other_of (other h q) l e = refl
 section_other_of (short h q k) l e = absurd (e q)
@@ -55,7 +54,7 @@ section_other_of (cut h k) l e = absurd (e h.tagged)
 section_other_of (full h) l e = absurd (e h.head.tagged)
 
 -- another byte where the tag should be
-pub section_other : (bs : List ℕ) (at tag : ℕ) → at < length bs → (get_or bs at 0 ≡ tag → ⊥) → section_of bs at tag ≡ section.Broken at
+pub section_other : (bs : List ℕ) (at tag : ℕ) → at < length bs → (get_or bs at 0 ≡ tag → ⊥) → section_of bs at tag ≡ broken_at at
 section_other bs at tag l e = section_other_of (section_says bs at tag) l e
 
 -- a section that is broken before the end of the bytes has another tag
@@ -63,14 +62,14 @@ pub record Other (bs : List ℕ) (at tag p : ℕ) : Type 0 where
   pub here : at ≡ p
   pub differs : get_or bs at 0 ≡ tag → ⊥
 
-section_inside_of : {bs : List ℕ} {at tag p : ℕ} {x : Section} → SectionSays bs at tag x → x ≡ section.Broken p → p < length bs → Other bs at tag p
-section_inside_of {bs} {p = p} (ended h) q l = let same : length bs ≡ p = cc in absurd (omega arith)
-section_inside_of {bs} {at = at} {p = p} (other h e) q l = record { here = cc; differs = e }
-section_inside_of {bs} {p = p} (short h e k) q l = let same : length bs ≡ p = cc in absurd (omega arith)
-section_inside_of {bs} {p = p} (cut h k) q l = let same : length bs ≡ p = cc in absurd (omega arith)
+section_inside_of : {bs : List ℕ} {at tag p : ℕ} {x : Result Span Broken} → SectionSays bs at tag x → x ≡ broken_at p → p < length bs → Other bs at tag p
+section_inside_of {bs} {p = p} (ended h) q l = let same : length bs ≡ p = same_place q in absurd (omega arith)
+section_inside_of {bs} {at = at} {p = p} (other h e) q l = record { here = same_place q; differs = e }
+section_inside_of {bs} {p = p} (short h e k) q l = let same : length bs ≡ p = same_place q in absurd (omega arith)
+section_inside_of {bs} {p = p} (cut h k) q l = let same : length bs ≡ p = same_place q in absurd (omega arith)
 section_inside_of (full h) q l = let z : ◌≡◌ {A = ℕ} 0 1 = cc in absurd (omega arith)
 
-pub section_inside : (bs : List ℕ) (at tag : ℕ) {p : ℕ} → section_of bs at tag ≡ section.Broken p → p < length bs → Other bs at tag p
+pub section_inside : (bs : List ℕ) (at tag : ℕ) {p : ℕ} → section_of bs at tag ≡ broken_at p → p < length bs → Other bs at tag p
 section_inside bs at tag q l = section_inside_of (section_says bs at tag) q l
 
 -- lists that begin with the same k bytes
@@ -266,12 +265,12 @@ completes_cut bs at tag n p b h k q =
     completes_more bs at tag low high p rest (there ++ rest) (omega (arith, h.fits)) q (b.each (at + 1)) (b.each (at + 2)) (bytes_zeros (n - length there)) filled
     (ap (λ (z : List ℕ). z ++ rest) stands)
 
-section_completes_of : {bs : List ℕ} {at tag p : ℕ} {x : Section} → Bytes bs → tag < byte_values → at ≤ length bs → SectionSays bs at tag x → x ≡ section.Broken p → Completes bs at tag p
-section_completes_of {bs} {at} {tag} {p} b t l (ended h) q = let same : length bs ≡ p = cc in completes_here bs at tag p t l (omega arith)
-section_completes_of {bs} {at} {tag} {p} b t l (other h e) q = let same : at ≡ p = cc in completes_here bs at tag p t l same
-section_completes_of {bs} {at} {tag} {p} b t l (short h e k) q = let same : length bs ≡ p = cc in completes_short bs at tag p b t h e k same
-section_completes_of {bs} {at} {tag} {p} b t l (cut {n = n} h k) q = let same : length bs ≡ p = cc in completes_cut bs at tag n p b h k same
+section_completes_of : {bs : List ℕ} {at tag p : ℕ} {x : Result Span Broken} → Bytes bs → tag < byte_values → at ≤ length bs → SectionSays bs at tag x → x ≡ broken_at p → Completes bs at tag p
+section_completes_of {bs} {at} {tag} {p} b t l (ended h) q = let same : length bs ≡ p = same_place q in completes_here bs at tag p t l (omega arith)
+section_completes_of {bs} {at} {tag} {p} b t l (other h e) q = let same : at ≡ p = same_place q in completes_here bs at tag p t l same
+section_completes_of {bs} {at} {tag} {p} b t l (short h e k) q = let same : length bs ≡ p = same_place q in completes_short bs at tag p b t h e k same
+section_completes_of {bs} {at} {tag} {p} b t l (cut {n = n} h k) q = let same : length bs ≡ p = same_place q in completes_cut bs at tag n p b h k same
 section_completes_of b t l (full h) q = let z : ◌≡◌ {A = ℕ} 0 1 = cc in absurd (omega arith)
 
-pub section_completes : (bs : List ℕ) (at tag : ℕ) {p : ℕ} → Bytes bs → tag < byte_values → at ≤ length bs → section_of bs at tag ≡ section.Broken p → Completes bs at tag p
+pub section_completes : (bs : List ℕ) (at tag : ℕ) {p : ℕ} → Bytes bs → tag < byte_values → at ≤ length bs → section_of bs at tag ≡ broken_at p → Completes bs at tag p
 section_completes bs at tag b t l q = section_completes_of b t l (section_says bs at tag) q

@@ -1,17 +1,12 @@
 -- The stored form: "Tag byte, two-byte length, low byte first, payload: tag 1 kinds, then tag 2 joints, each once, nothing after."
 -- `encode` writes it, and the rules below it say what bytes hold. All tags and shapes stand here.
-use Rattle.std.specs.Prelude.{ℕ, ◌+◌, ◌-◌, ◌*◌, ◌/◌, ◌%◌, ◌≡◌, List, [], ◌∷◌, ◌++◌, Bool, true, false, length, get_or, take, drop, ltb, leb, eqb}
+use Rattle.std.specs.Prelude.{ℕ, ◌+◌, ◌-◌, ◌*◌, ◌/◌, ◌%◌, ◌≡◌, List, [], ◌∷◌, ◌++◌, Bool, true, false, Result, Ok, Err, length, get_or, take, drop, ltb, leb, eqb}
 use Rattle.base.specs.Base.{pick, whether}
-use Rattle.stored.specs.declared.Head.{Head}
-use Rattle.stored.specs.declared.Head.TheVariants as head
 use Rattle.stored.specs.declared.Span.{Span}
-use Rattle.stored.specs.declared.Section.{Section}
-use Rattle.stored.specs.declared.Section.TheVariants as section
 use Rattle.stored.specs.declared.Form.{Form}
-use Rattle.stored.specs.declared.Stored.{Stored}
-use Rattle.stored.specs.declared.Stored.TheVariants as stored
-use Rattle.stored.specs.declared.Limited.{Limited}
-use Rattle.stored.specs.declared.Limited.TheVariants as limited
+use Rattle.stored.specs.declared.Broken.{Broken}
+use Rattle.stored.specs.declared.Unread.{Unread}
+use Rattle.stored.specs.declared.Unread.TheVariants as unread
 
 -- "tag 1 kinds, then tag 2 joints"
 abbrev pub kinds_tag : ℕ
@@ -53,51 +48,55 @@ length_of low high = low + byte_values * high
 abbrev pub end_of : Span → ℕ
 end_of s = s.at + s.len
 
+-- refusal 10 at a place
+abbrev pub broken_at : {T : Type 0} → ℕ → Result T Broken
+broken_at p = Err (record { 0 = p })
+
 -- what follows each answer
-unfoldable pub on_head : {A : Type 0} → Head → (ℕ → A) → (ℕ → A) → A
-on_head (head.Length n) f g = f n
-on_head (head.Broken p) f g = g p
+unfoldable pub on_head : {A : Type 0} → Result ℕ Broken → (ℕ → A) → (ℕ → A) → A
+on_head (Ok n) f g = f n
+on_head (Err b) f g = g b.0
 
-unfoldable pub on_section : {A : Type 0} → Section → (Span → A) → (ℕ → A) → A
-on_section (section.Payload s) f g = f s
-on_section (section.Broken p) f g = g p
+unfoldable pub on_section : {A : Type 0} → Result Span Broken → (Span → A) → (ℕ → A) → A
+on_section (Ok s) f g = f s
+on_section (Err b) f g = g b.0
 
-unfoldable pub on_stored : {A : Type 0} → Stored → (Form → A) → (ℕ → A) → A
-on_stored (stored.Whole f) k g = k f
-on_stored (stored.Broken p) k g = g p
+unfoldable pub on_stored : {A : Type 0} → Result Form Broken → (Form → A) → (ℕ → A) → A
+on_stored (Ok f) k g = k f
+on_stored (Err b) k g = g b.0
 
 -- The tag and the length of the section that starts at a place. A byte that is no such tag fits no valid form; any length bytes do.
 -- Otherwise the file ends too early: "or file length"
-unfoldable pub head_of : List ℕ → ℕ → ℕ → Head
+unfoldable pub head_of : List ℕ → ℕ → ℕ → Result ℕ Broken
 head_of bs at tag =
-    whether (leb (length bs) at) (λ _. head.Broken (length bs)) λ _.
+    whether (leb (length bs) at) (λ _. broken_at (length bs)) λ _.
     whether (eqb (get_or bs at 0) tag)
-    (λ _. whether (ltb (length bs - at) head_length) (λ _. head.Broken (length bs))
-    (λ _. head.Length (length_of (get_or bs (at + low_place) 0) (get_or bs (at + high_place) 0))))
-    (λ _. head.Broken at)
+    (λ _. whether (ltb (length bs - at) head_length) (λ _. broken_at (length bs))
+    (λ _. Ok (length_of (get_or bs (at + low_place) 0) (get_or bs (at + high_place) 0))))
+    (λ _. broken_at at)
 
 -- the section that starts at a place, with all of its payload. Payload bytes are free
-unfoldable pub section_of : List ℕ → ℕ → ℕ → Section
+unfoldable pub section_of : List ℕ → ℕ → ℕ → Result Span Broken
 section_of bs at tag =
     on_head (head_of bs at tag)
-    (λ n. whether (ltb (length bs - at - head_length) n) (λ _. section.Broken (length bs)) (λ _. section.Payload (record { at = at + head_length; len = n })))
-    (λ p. section.Broken p)
+    (λ n. whether (ltb (length bs - at - head_length) n) (λ _. broken_at (length bs)) (λ _. Ok (record { at = at + head_length; len = n })))
+    (λ p. broken_at p)
 
 -- the form that stands first: "tag 1 kinds, then tag 2 joints, each once". Other bytes may follow from its end on
-unfoldable pub first_of : List ℕ → Stored
+unfoldable pub first_of : List ℕ → Result Form Broken
 first_of bs =
     on_section (section_of bs 0 kinds_tag)
     (λ kinds. on_section (section_of bs (end_of kinds) joints_tag)
-    (λ joints. stored.Whole (record { kinds = kinds; joints = joints; end = end_of joints }))
-    (λ p. stored.Broken p))
-    (λ p. stored.Broken p)
+    (λ joints. Ok (record { kinds = kinds; joints = joints; end = end_of joints }))
+    (λ p. broken_at p))
+    (λ p. broken_at p)
 
 -- the one form that the bytes are: "nothing after". A byte after it fits no valid form
-unfoldable pub stored_of : List ℕ → Stored
+unfoldable pub stored_of : List ℕ → Result Form Broken
 stored_of bs =
     on_stored (first_of bs)
-    (λ f. whether (eqb f.end (length bs)) (λ _. stored.Whole f) (λ _. stored.Broken f.end))
-    (λ p. stored.Broken p)
+    (λ f. whether (eqb f.end (length bs)) (λ _. Ok f) (λ _. broken_at f.end))
+    (λ p. broken_at p)
 
 -- "at the first length above 256": either length, as soon as it is read; a wrong tag before it is 10
 unfoldable pub long_of : List ℕ → ℕ → Bool
@@ -107,10 +106,10 @@ long_of bs limit =
     (λ _. false)
 
 -- "refuses 3 at 0 at the first length above 256 without reading on (only here 3 may come before 10)"
-unfoldable pub limited_of : List ℕ → ℕ → Limited
+unfoldable pub limited_of : List ℕ → ℕ → Result Form Unread
 limited_of bs limit =
-    whether (long_of bs limit) (λ _. limited.Long) λ _.
-    on_stored (stored_of bs) (λ f. limited.Whole f) (λ p. limited.Broken p)
+    whether (long_of bs limit) (λ _. Err unread.Long) λ _.
+    on_stored (stored_of bs) (λ f. Ok f) (λ p. Err (unread.Broken p))
 
 -- the bytes of a span, or none where it runs past the end
 unfoldable pub part_of : List ℕ → Span → List ℕ
@@ -126,6 +125,6 @@ joints_of bs f = part_of bs f.joints
 -- decoding the bytes gives these kinds and joints
 pub record Decodes (bs kinds joints : List ℕ) : Type 0 where
   pub form : Form
-  pub accepted : stored_of bs ≡ stored.Whole form
+  pub accepted : stored_of bs ≡ Ok form
   pub its_kinds : kinds_of bs form ≡ kinds
   pub its_joints : joints_of bs form ≡ joints

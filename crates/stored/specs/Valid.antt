@@ -1,11 +1,10 @@
 -- What the stored form is, said with no way to read it: the valid forms, the place of refusal 10, and the answers that are allowed.
-use Rattle.std.specs.Prelude.{ℕ, suc, ◌+◌, ◌<◌, ◌≤◌, ◌≡◌, List, ◌++◌, length, get_or, take}
-use Rattle.stored.specs.Stored.{encode, kinds_tag, joints_tag, low_place, high_place, head_length, length_of, byte_values, length_values}
+use Rattle.std.specs.Prelude.{ℕ, suc, ◌+◌, ◌<◌, ◌≤◌, ◌≡◌, List, ◌++◌, Result, Ok, Err, length, get_or, take}
+use Rattle.stored.specs.Stored.{encode, broken_at, kinds_tag, joints_tag, low_place, high_place, head_length, length_of, byte_values, length_values}
 use Rattle.stored.specs.declared.Form.{Form}
-use Rattle.stored.specs.declared.Stored.{Stored}
-use Rattle.stored.specs.declared.Stored.TheVariants as stored
-use Rattle.stored.specs.declared.Limited.{Limited}
-use Rattle.stored.specs.declared.Limited.TheVariants as limited
+use Rattle.stored.specs.declared.Broken.{Broken}
+use Rattle.stored.specs.declared.Unread.{Unread}
+use Rattle.stored.specs.declared.Unread.TheVariants as unread
 
 -- a list of bytes
 pub record Bytes (bs : List ℕ) : Type 0 where
@@ -38,14 +37,14 @@ form_of kinds joints =
     }
 
 -- the answers that the paper allows: where the payloads stand, for a valid form; else refusal 10 at its place
-pub data Allowed (bs : List ℕ) : Stored → Type 0 where
-  whole : (v : Valid bs) → Allowed bs (stored.Whole (form_of v.kinds v.joints))
-  broken : {p : ℕ} → (Valid bs → ⊥) → Place bs p → Allowed bs (stored.Broken p)
+pub data Allowed (bs : List ℕ) : Result Form Broken → Type 0 where
+  whole : (v : Valid bs) → Allowed bs (Ok (form_of v.kinds v.joints))
+  broken : {p : ℕ} → (Valid bs → ⊥) → Place bs p → Allowed bs (broken_at p)
 
 -- the same for a form that stands first, whatever follows it
-pub data AllowedFirst (bs : List ℕ) : Stored → Type 0 where
-  whole_first : (ks js ys : List ℕ) → length ks < length_values → length js < length_values → bs ≡ encode ks js ++ ys → AllowedFirst bs (stored.Whole (form_of ks js))
-  broken_first : {p : ℕ} → ((ks js ys : List ℕ) → bs ≡ encode ks js ++ ys → ⊥) → Place bs p → AllowedFirst bs (stored.Broken p)
+pub data AllowedFirst (bs : List ℕ) : Result Form Broken → Type 0 where
+  whole_first : (ks js ys : List ℕ) → length ks < length_values → length js < length_values → bs ≡ encode ks js ++ ys → AllowedFirst bs (Ok (form_of ks js))
+  broken_first : {p : ℕ} → ((ks js ys : List ℕ) → bs ≡ encode ks js ++ ys → ⊥) → Place bs p → AllowedFirst bs (broken_at p)
 
 -- a length is read at a place: the tag stands there, and the two length bytes after it say n
 pub record Headed (bs : List ℕ) (at tag n : ℕ) : Type 0 where
@@ -60,7 +59,7 @@ pub data TooLong (bs : List ℕ) (limit : ℕ) : Type 0 where
 
 -- "refuses 3 at 0 at the first length above 256 without reading on (only here 3 may come before 10)": the answers that are allowed to a
 -- reader with a limit
-pub data AllowedLimited (bs : List ℕ) (limit : ℕ) : Limited → Type 0 where
-  long : TooLong bs limit → AllowedLimited bs limit limited.Long
-  whole_within : (TooLong bs limit → ⊥) → (v : Valid bs) → AllowedLimited bs limit (limited.Whole (form_of v.kinds v.joints))
-  broken_within : {p : ℕ} → (TooLong bs limit → ⊥) → (Valid bs → ⊥) → Place bs p → AllowedLimited bs limit (limited.Broken p)
+pub data AllowedLimited (bs : List ℕ) (limit : ℕ) : Result Form Unread → Type 0 where
+  long : TooLong bs limit → AllowedLimited bs limit (Err unread.Long)
+  whole_within : (TooLong bs limit → ⊥) → (v : Valid bs) → AllowedLimited bs limit (Ok (form_of v.kinds v.joints))
+  broken_within : {p : ℕ} → (TooLong bs limit → ⊥) → (Valid bs → ⊥) → Place bs p → AllowedLimited bs limit (Err (unread.Broken p))

@@ -1,9 +1,10 @@
 -- Worked bytes, by computation: forms that are read, and refusal 10 with its place.
-use Rattle.std.specs.Prelude.{ℕ, ◌≡◌, refl, List, [], ◌∷◌}
+use Rattle.std.specs.Prelude.{ℕ, ◌≡◌, refl, List, [], ◌∷◌, Result, Err}
 use Rattle.base.specs.Base.{pick, whether}
 use Rattle.stored.specs.Stored.{encode, encode_section, on_head, on_section, on_stored, head_of, section_of, first_of, stored_of, long_of, limited_of, part_of, kinds_of, joints_of}
-use Rattle.stored.specs.declared.Limited.{Limited}
-use Rattle.stored.specs.declared.Limited.TheVariants as limited
+use Rattle.stored.specs.declared.Form.{Form}
+use Rattle.stored.specs.declared.Unread.{Unread}
+use Rattle.stored.specs.declared.Unread.TheVariants as unread
 
 -- what bytes hold: the kinds and the joints, or the place of refusal 10
 pub data Held : Type 0 where
@@ -83,22 +84,22 @@ unfolding held
 low_byte_first = refl
 
 -- for the program: a length of 257 is refusal 3 at once, be it of the kinds or of the joints; a wrong tag before it is 10
-unfoldable pub program_holds : List ℕ → Limited
+unfoldable pub program_holds : List ℕ → Result Form Unread
 unfolding whether on_head on_section on_stored head_of section_of first_of stored_of long_of limited_of
 program_holds bs = limited_of bs 256
 
-long_kinds : program_holds (1 ∷ 1 ∷ 1 ∷ []) ≡ limited.Long
+long_kinds : program_holds (1 ∷ 1 ∷ 1 ∷ []) ≡ Err unread.Long
 unfolding program_holds
 long_kinds = refl
 
-long_joints : program_holds (1 ∷ 0 ∷ 0 ∷ 2 ∷ 1 ∷ 1 ∷ []) ≡ limited.Long
+long_joints : program_holds (1 ∷ 0 ∷ 0 ∷ 2 ∷ 1 ∷ 1 ∷ []) ≡ Err unread.Long
 unfolding program_holds
 long_joints = refl
 
-wrong_tag_before_length : program_holds (1 ∷ 0 ∷ 0 ∷ 1 ∷ 1 ∷ 1 ∷ []) ≡ limited.Broken 3
+wrong_tag_before_length : program_holds (1 ∷ 0 ∷ 0 ∷ 1 ∷ 1 ∷ 1 ∷ []) ≡ Err (unread.Broken 3)
 unfolding program_holds
 wrong_tag_before_length = refl
 
-length_of_256 : program_holds (1 ∷ 0 ∷ 1 ∷ []) ≡ limited.Broken 3
+length_of_256 : program_holds (1 ∷ 0 ∷ 1 ∷ []) ≡ Err (unread.Broken 3)
 unfolding program_holds
 length_of_256 = refl

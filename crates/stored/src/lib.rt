@@ -6,6 +6,7 @@ ghost use Rattle.std.specs.Prelude.{◌≡◌};
 ghost use Rattle.stored.specs.Stored.{length_of, head_of, section_of, first_of, stored_of, long_of, limited_of, part_of, kinds_of, joints_of};
 
 // The tag of a section. All tags stand here and nowhere else.
+// It is no enum: `section_at` reads sections of every tag, as those of the cases of `read_tests`, with b'r' and b'b'.
 #[derive(Clone, Copy)]
 pub struct Tag(pub u8);
 
@@ -15,32 +16,9 @@ impl Tag {
     pub const JOINTS: Tag = Tag(2);
 }
 
-// What the head of a section says.
-#[derive(Clone, Copy)]
-pub enum Head {
-    // As many payload bytes follow.
-    Length(usize),
-    // Refusal 10 at this place.
-    Broken(usize),
-}
-
-// Where a part of the bytes starts, and how long it is.
-#[derive(Clone, Copy)]
-pub struct Span {
-    pub at: usize,
-    pub len: usize,
-}
-
-// What stands where a section should.
-#[derive(Clone, Copy)]
-pub enum Section {
-    // Its payload.
-    Payload(Span),
-    // Refusal 10 at this place.
-    Broken(usize),
-}
-
 // The shape of a section: the tag, the low and the high byte of the length, and from `HEAD` on the payload.
+pub struct Section;
+
 impl Section {
     pub const LOW: usize = 1;
 
@@ -51,6 +29,13 @@ impl Section {
     pub const HIGH_UNIT: usize = 256;
 }
 
+// Where a part of the bytes starts, and how long it is: no slice, since `decode` and the others promise the places (`stored_of`).
+#[derive(Clone, Copy)]
+pub struct Span {
+    pub at: usize,
+    pub len: usize,
+}
+
 // Where the parts of a whole form stand: both payloads, and the place after the last byte.
 #[derive(Clone, Copy)]
 pub struct Form {
@@ -59,144 +44,132 @@ pub struct Form {
     pub end: usize,
 }
 
-// What bytes hold.
-#[derive(Clone, Copy)]
-pub enum Stored {
-    Whole(Form),
-    // Refusal 10 at this place.
-    Broken(usize),
-}
+// Refusal 10 at this place.
+#[derive(Clone, Copy, Debug, PartialEq, Eq)]
+pub struct Broken(pub usize);
 
-// What bytes hold for a reader that takes no length above its limit.
-#[derive(Clone, Copy)]
-pub enum Limited {
-    Whole(Form),
+// Why a reader that takes no length above its limit has no form.
+#[derive(Clone, Copy, Debug, PartialEq, Eq)]
+pub enum Unread {
     // A length above the limit: refusal 3 at 0.
     Long,
     // Refusal 10 at this place.
     Broken(usize),
 }
 
+impl From<Broken> for Unread {
+    ghost use Rattle.stored.specs.declared.Unread.TheVariants as unread;
+    ghost use Rattle.std.specs.Prelude.{◌≡◌};
+
+    ghost from_gives = { λ broken why. why ≡ unread.Broken broken.0 };
+
+    fn from(broken: Broken) -> Unread {
+        Unread::Broken(broken.0)
+    }
+}
+
 // "two-byte length, low byte first"
 fn length_of(low: u8, high: u8) -> usize
     ensures { result ≡ length_of low high }
 {
-    low as usize + Section::HIGH_UNIT * high as usize
+    usize::from(low) + Section::HIGH_UNIT * usize::from(high)
 }
 
-// The head of the section that starts at `at`: enough to know how much to read on.
-pub fn head_at(bytes: &[u8], at: usize, tag: Tag) -> Head
+// The length in the head of the section that starts at `at`: enough to know how much to read on.
+#[tactic(auto, unfolding(crate::specs::Stored::head_of, base::specs::Base::whether))]
+pub fn head_at(bytes: &[u8], at: usize, tag: Tag) -> Result<usize, Broken>
     ensures { result ≡ head_of bytes.now at tag.0 }
 {
-    if bytes.len() <= at {
-        return Head::Broken(bytes.len());
-    }
-    if bytes[at] != tag.0 {
-        return Head::Broken(at);
+    let end = Broken(bytes.len());
+    let first = bytes.get(at).copied().ok_or(end)?;
+    if first != tag.0 {
+        return Err(Broken(at));
     }
     if bytes.len() - at < Section::HEAD {
-        return Head::Broken(bytes.len());
+        return Err(end);
     }
-    Head::Length(length_of(bytes[at + Section::LOW], bytes[at + Section::HIGH]))
+    Ok(length_of(bytes[at + Section::LOW], bytes[at + Section::HIGH]))
 }
 
-// The section that starts at `at`.
-pub fn section_at(bytes: &[u8], at: usize, tag: Tag) -> Section
+// The payload of the section that starts at `at`.
+#[tactic(auto, using(crate::proofs::Cases::head_fits), unfolding(crate::specs::Stored::section_of, crate::specs::Stored::on_head, base::specs::Base::whether))]
+pub fn section_at(bytes: &[u8], at: usize, tag: Tag) -> Result<Span, Broken>
     ensures { result ≡ section_of bytes.now at tag.0 }
 {
-    match head_at(bytes, at, tag) {
-        Head::Length(len) => if bytes.len() - at - Section::HEAD < len {
-            Section::Broken(bytes.len())
-        } else {
-            Section::Payload(Span {
-                at: at + Section::HEAD,
-                len: len,
-            })
-        },
-        Head::Broken(place) => Section::Broken(place),
+    let len = head_at(bytes, at, tag)?;
+    if bytes.len() - at - Section::HEAD < len {
+        return Err(Broken(bytes.len()));
     }
+    Ok(Span {
+        at: at + Section::HEAD,
+        len,
+    })
 }
 
 // The form that stands first in `bytes`; others may follow from its end on.
-pub fn decode_first(bytes: &[u8]) -> Stored
+#[tactic(auto, using(crate::proofs::Cases::section_fits), unfolding(crate::specs::Stored::first_of, crate::specs::Stored::on_section))]
+pub fn decode_first(bytes: &[u8]) -> Result<Form, Broken>
     ensures { result ≡ first_of bytes.now }
 {
-    match section_at(bytes, 0, Tag::KINDS) {
-        Section::Payload(kinds) => match section_at(bytes, kinds.at + kinds.len, Tag::JOINTS) {
-            Section::Payload(joints) => Stored::Whole(Form {
-                kinds: kinds,
-                joints: joints,
-                end: joints.at + joints.len,
-            }),
-            Section::Broken(place) => Stored::Broken(place),
-        },
-        Section::Broken(place) => Stored::Broken(place),
-    }
+    let kinds = section_at(bytes, 0, Tag::KINDS)?;
+    let joints = section_at(bytes, kinds.at + kinds.len, Tag::JOINTS)?;
+    let end = joints.at + joints.len;
+    Ok(Form { kinds, joints, end })
 }
 
 // The one form that `bytes` are: "nothing after".
-pub fn decode(bytes: &[u8]) -> Stored
+#[tactic(auto, unfolding(crate::specs::Stored::stored_of, crate::specs::Stored::on_stored, base::specs::Base::whether))]
+pub fn decode(bytes: &[u8]) -> Result<Form, Broken>
     ensures { result ≡ stored_of bytes.now }
 {
-    match decode_first(bytes) {
-        Stored::Whole(form) => if form.end == bytes.len() {
-            Stored::Whole(form)
-        } else {
-            Stored::Broken(form.end)
-        },
-        Stored::Broken(place) => Stored::Broken(place),
+    let form = decode_first(bytes)?;
+    if form.end == bytes.len() {
+        Ok(form)
+    } else {
+        Err(Broken(form.end))
     }
 }
 
 // Whether a length that is read before anything is broken is above the limit.
+#[tactic(auto, unfolding(crate::specs::Stored::long_of, crate::specs::Stored::on_head, base::specs::Base::whether))]
 pub fn too_long(bytes: &[u8], limit: u16) -> bool
     ensures { result ≡ long_of bytes.now limit }
 {
-    let most = limit as usize;
-    match head_at(bytes, 0, Tag::KINDS) {
-        Head::Length(kinds_len) => if most < kinds_len {
-            true
-        } else {
-            match head_at(bytes, Section::HEAD + kinds_len, Tag::JOINTS) {
-                Head::Length(joints_len) => most < joints_len,
-                Head::Broken(_) => false,
-            }
-        },
-        Head::Broken(_) => false,
+    let most = usize::from(limit);
+    let Ok(kinds_len) = head_at(bytes, 0, Tag::KINDS) else {
+        return false;
+    };
+    if most < kinds_len {
+        return true;
     }
+    let Ok(joints_len) = head_at(bytes, Section::HEAD + kinds_len, Tag::JOINTS) else {
+        return false;
+    };
+    most < joints_len
 }
 
 // The one form that `bytes` are, or a length above the limit.
-pub fn decode_limited(bytes: &[u8], limit: u16) -> Limited
+#[tactic(auto, unfolding(crate::specs::Stored::limited_of, crate::specs::Stored::on_stored, base::specs::Base::whether))]
+pub fn decode_limited(bytes: &[u8], limit: u16) -> Result<Form, Unread>
     ensures { result ≡ limited_of bytes.now limit }
 {
     if too_long(bytes, limit) {
-        return Limited::Long;
+        return Err(Unread::Long);
     }
-    match decode(bytes) {
-        Stored::Whole(form) => Limited::Whole(form),
-        Stored::Broken(place) => Limited::Broken(place),
-    }
+    Ok(decode(bytes)?)
 }
 
 // The bytes of a span, or none where it runs past the end.
+#[tactic(auto, unfolding(crate::specs::Stored::part_of, base::specs::Base::pick))]
 pub fn part(bytes: &[u8], span: Span) -> &[u8]
     ensures { result.now ≡ part_of bytes.now span }
 {
-    let at = span.at;
-    let len = span.len;
-    if at <= bytes.len() {
-        if len <= bytes.len() - at {
-            &bytes[at..at + len]
-        } else {
-            &bytes[..0]
-        }
-    } else {
-        &bytes[..0]
-    }
+    let rest = bytes.get(span.at..).unwrap_or(&[]);
+    rest.get(..span.len).unwrap_or(&[])
 }
 
 // The kinds of a form, as a part of its bytes.
+#[tactic(auto, unfolding(crate::specs::Stored::kinds_of))]
 pub fn kinds(bytes: &[u8], form: Form) -> &[u8]
     ensures { result.now ≡ kinds_of bytes.now form }
 {
@@ -204,6 +177,7 @@ pub fn kinds(bytes: &[u8], form: Form) -> &[u8]
 }
 
 // The joints of a form, as a part of its bytes.
+#[tactic(auto, unfolding(crate::specs::Stored::joints_of))]
 pub fn joints(bytes: &[u8], form: Form) -> &[u8]
     ensures { result.now ≡ joints_of bytes.now form }
 {

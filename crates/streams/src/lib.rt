@@ -7,12 +7,12 @@ ghost use Rattle.std.specs.Io.KnownBytes.{Consumes, IsAtEnd};
 
 use std::io::{self, Read};
 
-// 65,536 zeros, for a program that reads or prints much.
-pub fn large_buffer() -> [u8; 65536]
-    ensures size { 65536 ≡ length result }
+// So many zeros, for a program that reads or prints much.
+pub fn large_buffer<const N: usize>() -> [u8; N]
+    ensures size { N ≡ length result }
     ensures zeros { All (λ b. b ≡ 0) result }
 {
-    [0; 65536]
+    [0; N]
 }
 
 // Reads until `buf` is full or the input ends, and returns how many bytes it put at the start of
@@ -24,6 +24,7 @@ pub fn read_full<R: Read>(reader: &mut R, buf: &mut [u8]) -> io::Result<usize>
     ensures end { IfOk result (λ n. n < length buf.new → IsAtEnd (R.remaining reader.new)) }
 {
     let mut done = 0;
+    // This is no `for`: each turn goes on by as many bytes as a read gave, and not by one.
     while done < buf.len() {
         let n = reader.read(&mut buf[done..])?;
         if n == 0 {

@@ -12,15 +12,10 @@ use Rattle.input.specs.Input.{Tokens}
 use Rattle.event.specs.Event.{START, ERROR_TAG, tag_of, error_entry}
 use Rattle.event.specs.declared.State.{State}
 use Rattle.event.proofs.Laws.{live_parts, named_parts, tag_entry}
-use Rattle.parser.specs.Calls.{is_open, is_closed, is_last, start_of, complete_of, abandon_of, precede_of, extend_of, eat_of, bump_any_of, error_of, split_dot_of, split_two_of, split_of}
+use Rattle.parser.specs.Calls.{is_open, is_closed, is_last, start_of, complete_of, abandon_of, precede_of, extend_of, eat_of, bump_any_of, error_of, split_dot_of, split_two_of, split_of, Opened, Closed, Moved, Taken, Parted}
 use Rattle.parser.specs.Prog.{Prog, run}
 use Rattle.parser.specs.declared.Marker.{Marker}
 use Rattle.parser.specs.declared.CompletedMarker.{CompletedMarker}
-use Rattle.parser.specs.declared.Opened.{Opened}
-use Rattle.parser.specs.declared.Closed.{Closed}
-use Rattle.parser.specs.declared.Moved.{Moved}
-use Rattle.parser.specs.declared.Taken.{Taken}
-use Rattle.parser.specs.declared.Parted.{Parted}
 use Rattle.parser.proofs.Moves.{OpenedBy, ClosedBy, MovedBy, TakenBy, PartedBy, Keeps, Kept, run_keeps}
 use Rattle.input.proofs.Laws.{both_true}
 use Rattle.demand.proofs.Tokens.{code_small}

@@ -1,4 +1,5 @@
 -- P3 to P6 of document 01 are instances of groups_as_the_table: each list is without ranges and is read without error and refusal, and its tree is the one of specs/Worked.antt. P8 is a list with a range for which the theorem would be false. Assumes nothing.
+use Rattle.std.proofs.Common.{Result, Ok, Err}
 use mathlib.Core.Path.{◌≡◌, refl, sym, subst, ap, ◌∙◌}
 use mathlib.Core.List.{List, [], ◌∷◌}
 use mathlib.Core.Bool.{Bool, true, false}
@@ -15,8 +16,8 @@ use Rattle.input.specs.Input.{Tokens, lent, stands, follow, parts_of, width_of, 
 use Rattle.reader.specs.Reader as reader
 use Rattle.reader.specs.Reader.{consumed_of, steps_of, parse_of}
 use Rattle.reader.specs.Worked.{read}
+use Rattle.input.specs.declared.Refusal.{Refusal}
 use Rattle.reader.specs.declared.Parsed.{Parsed}
-use Rattle.reader.specs.declared.Parsed.TheVariants as parsed
 use Rattle.input.proofs.Laws.{both_true}
 use Rattle.tree.specs.Tree.{Tree, Covers, rest, path, leaves, raws, path_steps, flat}
 use Rattle.tree.specs.Grouped.{Grouped, NoRanges}
@@ -44,9 +45,9 @@ unfolding present parts_of is_glued row_of row_parts glued_table follow whether
 no_ranges ks js n i = sym (whether_no _ _ (no_stand ks js n i) refl)
 
 -- a list that the worked reader reads: its answer
-answer_go : (ts : Tokens) (ev st e s : List ℕ) (x : Parsed) → parse_of ts ev st ≡ (x, e, s) → (c : ℕ) (l : List ℕ) → consumed_of x ≡ suc c → take (steps_of x) s ≡ l → NoErrors l → Answer ts (suc c) l
-answer_go ts ev st e s (parsed.Steps k n) q c l p r h = record { events = ev; room = st; many = n; events' = e; room' = s; is_read = q ∙ ap (λ (i : ℕ). (parsed.Steps i n, e, s)) p; are_steps = sym r; no_errors = h }
-answer_go ts ev st e s (parsed.Refused f) q c l p r h = absurd (omega arith)
+answer_go : (ts : Tokens) (ev st e s : List ℕ) (x : Result Parsed Refusal) → parse_of ts ev st ≡ (x, e, s) → (c : ℕ) (l : List ℕ) → consumed_of x ≡ suc c → take (steps_of x) s ≡ l → NoErrors l → Answer ts (suc c) l
+answer_go ts ev st e s (Ok got) q c l p r h = record { events = ev; room = st; many = got.steps; events' = e; room' = s; is_read = q ∙ ap (λ (i : ℕ). (Ok (record { consumed = i; steps = got.steps }), e, s)) p; are_steps = sym r; no_errors = h }
+answer_go ts ev st e s (Err f) q c l p r h = absurd (omega arith)
 
 answer : (ks js : List ℕ) (c : ℕ) (l : List ℕ) → read ks js ≡ (suc c, l) → NoErrors l → Answer (lent ks js) (suc c) l
 unfolding read

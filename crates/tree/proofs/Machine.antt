@@ -1,4 +1,5 @@
 -- What each call of the machine does to the events that are seen up to the count: an event changed where it stands, and events pushed. A refused call says nothing. Assumes nothing.
+use Rattle.std.proofs.Common.{Ok, Err, Some, None}
 use mathlib.Core.Path.{◌≡◌, refl, sym, subst, ap, ◌∙◌}
 use mathlib.Core.List.{List, [], ◌∷◌, ◌++◌, map, append_assoc}
 use mathlib.Core.Bool.{Bool, true, false}
@@ -14,17 +15,9 @@ use Rattle.input.specs.Input.{Tokens, kind_at, joint_at, stands, present, width_
 use Rattle.event.specs.Event.{Status, Event, start, finish, token, split, live, spent, named, view, flag_of, offset_of, node_of, is_live, is_named, start_entry, preceding_entry, finish_entry, token_entry, split_entry, field_entry, named_entry, parented_entry, extended_entry}
 use Rattle.event.specs.declared.State.{State}
 use Rattle.event.proofs.Laws.{view_start_entry, view_preceding_entry, view_field_entry, view_finish_entry, view_token_entry, view_split_entry, view_named_entry, view_parented_entry, view_extended_entry, live_view, named_view, node_below}
-use Rattle.parser.specs.Calls.{room_for, is_open, is_closed, start_of, complete_of, precede_of, extend_of, eat_of, bump_any_of, split_dot_of, split_two_of, split_of}
+use Rattle.parser.specs.Calls.{room_for, is_open, is_closed, start_of, complete_of, precede_of, extend_of, eat_of, bump_any_of, split_dot_of, split_two_of, split_of, Opened, Closed, Taken, Parted}
 use Rattle.parser.specs.declared.Marker.{Marker}
 use Rattle.parser.specs.declared.CompletedMarker.{CompletedMarker}
-use Rattle.parser.specs.declared.Opened.{Opened}
-use Rattle.parser.specs.declared.Opened.TheVariants as opened
-use Rattle.parser.specs.declared.Closed.{Closed}
-use Rattle.parser.specs.declared.Closed.TheVariants as closed
-use Rattle.parser.specs.declared.Taken.{Taken}
-use Rattle.parser.specs.declared.Taken.TheVariants as taken
-use Rattle.parser.specs.declared.Parted.{Parted}
-use Rattle.parser.specs.declared.Parted.TheVariants as parted
 use Rattle.input.proofs.Laws.{both_true, width_bounds}
 use Rattle.demand.proofs.Tokens.{node_small, kind_small}
 use Rattle.demand.proofs.Seen.{seen_set, seen_push, seen_at, capacity_length, has_room}
@@ -75,13 +68,13 @@ parts_of_lem : (x : ℕ) {st st' : Status} {off : ℕ} {fl : Bool} → view x �
 parts_of_lem x p q = ((cc), (cc), (cc))
 
 abbrev pub OpenedAt : ℕ → List Event → List Event → Opened × List ℕ → Type 0
-OpenedAt q E F r = elim r.0 [ opened.Open s o ↦ Shows s.count r.1 F × (o.0 ≡ length E) × (s.pos.0 ≡ q) | opened.Refused n ↦ Unit {0} ]
+OpenedAt q E F r = elim r.0 [ Ok (s, o) ↦ Shows s.count r.1 F × (o.0 ≡ length E) × (s.pos.0 ≡ q) | Err n ↦ Unit {0} ]
 
 abbrev pub ClosedAt : ℕ → ℕ → List Event → Closed × List ℕ → Type 0
-ClosedAt q i F r = elim r.0 [ closed.Done s m ↦ Shows s.count r.1 F × (m.0 ≡ i) × (s.pos.0 ≡ q) | closed.Refused n ↦ Unit {0} ]
+ClosedAt q i F r = elim r.0 [ Ok (s, m) ↦ Shows s.count r.1 F × (m.0 ≡ i) × (s.pos.0 ≡ q) | Err n ↦ Unit {0} ]
 
 abbrev pub TakenAt : ℕ → List ℕ → Bool → List Event → Taken × List ℕ → Type 0
-TakenAt q ev b F r = elim r.0 [ taken.Took s ↦ Shows s.count r.1 F × (s.pos.0 ≡ q) × (b ≡ true) | taken.No ↦ (r.1 ≡ ev) × (b ≡ false) | taken.Refused n ↦ Unit {0} ]
+TakenAt q ev b F r = elim r.0 [ Ok (Some s) ↦ Shows s.count r.1 F × (s.pos.0 ≡ q) × (b ≡ true) | Ok None ↦ (r.1 ≡ ev) × (b ≡ false) | Err n ↦ Unit {0} ]
 
 module _ (ts : Tokens) (s : State) (ev : List ℕ) {E : List Event} (h : Shows s.count ev E) where
   pub start_at : OpenedAt s.pos.0 E (E ++ (start live 0 false ∷ [])) (start_of s ev)
@@ -188,9 +181,9 @@ module _ (ts : Tokens) (s : State) (o : Marker) (ev : List ℕ) (D B : List Even
   abbrev pub PartedAt : Parted × List ℕ → Type 0
   PartedAt r =
       elim r.0 [
-        | parted.Split s1 m ↦ (s1.pos.0 ≡ s.pos.0 + 1) × (stands ts s.pos.0 FLOAT_NUMBER ≡ true) × (((eqb (joint_at ts s.pos.0) 0 ≡ true) × Shows s1.count r.1 AtDot × (m.0 ≡ length D)) ⊎ ((eqb (joint_at ts s.pos.0) 0 ≡ false) × Shows s1.count r.1 AtTwo × (m.0 ≡ length D + suc (length B))))
-        | parted.No ↦ (r.1 ≡ ev) × (stands ts s.pos.0 FLOAT_NUMBER ≡ false)
-        | parted.Refused n ↦ Unit {0}
+        | Ok (Some (s1, m)) ↦ (s1.pos.0 ≡ s.pos.0 + 1) × (stands ts s.pos.0 FLOAT_NUMBER ≡ true) × (((eqb (joint_at ts s.pos.0) 0 ≡ true) × Shows s1.count r.1 AtDot × (m.0 ≡ length D)) ⊎ ((eqb (joint_at ts s.pos.0) 0 ≡ false) × Shows s1.count r.1 AtTwo × (m.0 ≡ length D + suc (length B))))
+        | Ok None ↦ (r.1 ≡ ev) × (stands ts s.pos.0 FLOAT_NUMBER ≡ false)
+        | Err n ↦ Unit {0}
       ]
 
   two_pushed : (E : List Event) (n : ℕ) (e : List ℕ) → Shows n e E → (v v' : ℕ) (x x' : Event) → view v ≡ x → view v' ≡ x' → n + 2 ≤ length e → Shows (n + 2) (set (set e n v) (n + 1) v') (E ++ (x ∷ x' ∷ []))

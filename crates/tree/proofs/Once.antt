@@ -1,4 +1,5 @@
 -- The steps say which tree: whatever tree over tokens has them, it is this one. Assumes nothing.
+use Rattle.std.proofs.Common.{Ok, Err}
 use mathlib.Core.Path.{◌≡◌, refl, sym, ap, ◌∙◌}
 use mathlib.Core.List.{List, [], ◌∷◌, ◌++◌, append_assoc}
 use mathlib.Core.Bool.{Bool, true, false}
@@ -10,9 +11,7 @@ use borrow.Author.Tests.{ltb-false, leb-true, eqb-true, eqb-false}
 use Rattle.base.specs.Base.{whether, called}
 use Rattle.base.proofs.Cases.{whether_by, bound_by}
 use Rattle.input.specs.SyntaxKind.{IDENT, AS_KW, MUT_KW, AWAIT_KW, L_PAREN, R_PAREN, L_BRACK, R_BRACK, AMP, QUESTION, LITERAL, PATH_EXPR, PAREN_EXPR, REF_EXPR, PREFIX_EXPR, BIN_EXPR, RANGE_EXPR, CALL_EXPR, ARG_LIST, INDEX_EXPR, METHOD_CALL_EXPR, FIELD_EXPR, AWAIT_EXPR, TRY_EXPR, CAST_EXPR, PATH_TYPE, FLOAT_SPLIT, ENDS_IN_DOT, SHREQ}
-use Rattle.input.specs.Input.{Tokens, kind_at, present, follow, parts_of, is_glued, width_of, is_raw, first_off, lengths_of, bytes_of, on_checked, tokens_of}
-use Rattle.input.specs.declared.Checked.{Checked}
-use Rattle.input.specs.declared.Checked.TheVariants as checked
+use Rattle.input.specs.Input.{Tokens, kind_at, present, follow, parts_of, is_glued, width_of, is_raw, first_off, lengths_of, bytes_of, on_checked, tokens_of, Checked}
 use Rattle.input.proofs.Laws.{both_true, stands_says, raw_bounds}
 use Rattle.tree.specs.Tree.{Tree, literal, name, paren, prefix, borrowed, borrowed_mut, binary, cast, bare, up_to, from, between, call, index, try, field, method, await, two_fields, lone, Stem, dotted, pointed, Args, nothing, last, more, Leaf, tok, float, leaves, stem_leaves, arg_leaves, Covers, enter, raw, taken, leave, node_over, name_ref, path_steps, flat, stem_steps, arg_steps}
 use Rattle.tree.proofs.Measures.{size, stem_size, some_size, Each, each_left, each_right}
@@ -137,7 +136,7 @@ first_all fine l (suc k) p h i a b = go (eqb i p) refl (first_next fine l k p (f
 abbrev Raw : Tokens → Type 0
 Raw ts = (i : ℕ) → i < length ts.kinds → is_raw (kind_at ts i) ≡ true
 
-bytes_raw : (ts : Tokens) → bytes_of ts 0 (length ts.kinds) ≡ checked.Fine → Raw ts
+bytes_raw : (ts : Tokens) → bytes_of ts 0 (length ts.kinds) ≡ Ok tt → Raw ts
 unfolding bytes_of
 bytes_raw ts =
     bound_by P (first_off is_raw ts.kinds 0 (length ts.kinds)) _
@@ -146,15 +145,15 @@ bytes_raw ts =
     (λ h q i l. first_all is_raw ts.kinds (length ts.kinds) 0 (ltb-false _ _ h) i (omega arith) (omega arith)))
   where
     P : Checked → Type 0
-    P r = r ≡ checked.Fine → Raw ts
+    P r = r ≡ Ok tt → Raw ts
 
-pub checked_raw : (ts : Tokens) → tokens_of ts ≡ checked.Fine → Raw ts
+pub checked_raw : (ts : Tokens) → tokens_of ts ≡ Ok tt → Raw ts
 unfolding tokens_of on_checked
 checked_raw ts q = go (lengths_of ts) q
   where
-    go : (c : Checked) → on_checked c (λ _. bytes_of ts 0 (length ts.kinds)) checked.Refused ≡ checked.Fine → Raw ts
-    go checked.Fine q = bytes_raw ts q
-    go (checked.Refused r) q = absurd (let z : ◌≡◌ {A = ℕ} 0 1 = cc in omega arith)
+    go : (c : Checked) → on_checked c (λ _. bytes_of ts 0 (length ts.kinds)) Err ≡ Ok tt → Raw ts
+    go (Ok _) q = bytes_raw ts q
+    go (Err r) q = absurd (let z : ◌≡◌ {A = ℕ} 0 1 = cc in omega arith)
 
 kind_of : (ts : Tokens) → Raw ts → (p k : ℕ) → present ts p k ≡ true → k < 256
 unfolding present parts_of is_glued follow

@@ -1,4 +1,6 @@
--- The answers of the reader as trees: the reading theorem, through the pass, to the steps. Assumes nothing.
+-- The answers of the reader as trees: the reading theorem, through the pass, to the steps. (`Err` is an error event, a refusal `outcome.Err`; `Result` is what the theorem gives.) Assumes nothing.
+use Rattle.std.proofs.Common.{Ok}
+use Rattle.std.specs.declared.result.Result.TheVariants as outcome
 use mathlib.Core.Path.{◌≡◌, refl, sym, subst, ap, ◌∙◌}
 use mathlib.Core.List.{List, [], ◌∷◌, ◌++◌, map, append_assoc, append-nil}
 use mathlib.Core.Bool.{true, false}
@@ -12,20 +14,15 @@ use borrow.Author.Tests.{leb-true}
 use Rattle.base.proofs.Cases.{whether_by}
 use Rattle.base.specs.Base.{called}
 use Rattle.input.specs.SyntaxKind.{FLOAT_NUMBER}
-use Rattle.input.specs.Input.{Tokens, depth_limit, parts_of, width_of, on_checked, tokens_of}
-use Rattle.input.specs.declared.Checked.{Checked}
-use Rattle.input.specs.declared.Checked.TheVariants as checked
+use Rattle.input.specs.Input.{Tokens, depth_limit, parts_of, width_of, on_checked, tokens_of, Checked}
 use Rattle.event.specs.Event.{Event, fresh}
 use Rattle.event.specs.declared.State.{State}
 use Rattle.parser.specs.Prog.{Reply, fine, bad, Ran, run, Perhaps, some, none}
 use Rattle.parser.specs.declared.CompletedMarker.{CompletedMarker}
-use Rattle.process.specs.Process.{sound_of, count_of, write_of, process_of}
-use Rattle.process.specs.declared.Processed.{Processed}
-use Rattle.process.specs.declared.Processed.TheVariants as processed
+use Rattle.process.specs.Process.{sound_of, count_of, write_of, process_of, Processed}
 use Rattle.grammar.specs.Expressions.{expr_bp}
 use Rattle.reader.specs.Reader as reader
 use Rattle.reader.specs.Reader.{refusing, on_processed, on_read, top_of, parse_of}
-use Rattle.reader.specs.declared.Parsed.TheVariants as parsed
 use Rattle.demand.specs.Steps.{Step, code_of}
 use Rattle.demand.specs.Demand.{seen}
 use Rattle.demand.proofs.Pass.{steps}
@@ -64,7 +61,7 @@ Result ts consumed l = (t : Tree) × (l ≡ flat t) × Over ts consumed t × (No
 
 -- what an answer of the reader says
 abbrev Says : Tokens → reader.Answer → Type 0
-Says ts a = elim a.0 [ parsed.Steps consumed n ↦ (NoErrors (take n a.2) → Result ts consumed (take n a.2)) | parsed.Refused r ↦ Unit {0} ]
+Says ts a = elim a.0 [ Ok got ↦ (NoErrors (take got.steps a.2) → Result ts got.consumed (take got.steps a.2)) | outcome.Err r ↦ Unit {0} ]
 
 abbrev Top : Tokens → Post (Perhaps CompletedMarker)
 Top ts = Some (Expr ts (Ends ts 1) [] 0)
@@ -95,11 +92,11 @@ module _ (ts : Tokens) (s : State) (ev st : List ℕ) (a : Perhaps CompletedMark
   abbrev Goes : Processed × List ℕ × List ℕ → Type 0
   Goes r = Says ts (on_processed s.pos.0 ev st r)
 
-  refused_says : (r : _) → Goes (processed.Refused r, ev, st)
+  refused_says : (r : _) → Goes (outcome.Err r, ev, st)
   unfolding on_processed refusing
   refused_says r = tt
 
-  written_says : (fine_events : sound_of s ev ≡ true) (room : count_of ev s.count ≤ length st) → Goes (called (write_of s.count ev st) (λ n st'. (processed.Steps n fresh, replicate (length ev) 0, st')))
+  written_says : (fine_events : sound_of s ev ≡ true) (room : count_of ev s.count ≤ length st) → Goes (called (write_of s.count ev st) (λ n st'. (Ok (n, fresh), replicate (length ev) 0, st')))
   unfolding on_processed called seen
   written_says f r =
       subst (λ (w : ℕ × List ℕ). NoErrors (take w.0 w.1) → Result ts s.pos.0 (take w.0 w.1)) (sym (written s.count ev st (sound_fits s ev f)))
@@ -114,10 +111,10 @@ unfolding on_read refusing
 read_says ts st (fine s a) e h = pass_says ts s e st a h
 read_says ts st (bad r) e h = tt
 
-checked_says : (ts : Tokens) (ev st : List ℕ) (f : Unit {0} → reader.Answer) → Says ts (f tt) → (c : Checked) → Says ts (on_checked c f (λ r. (parsed.Refused r, ev, st)))
+checked_says : (ts : Tokens) (ev st : List ℕ) (f : Unit {0} → reader.Answer) → Says ts (f tt) → (c : Checked) → Says ts (on_checked c f (λ r. (outcome.Err r, ev, st)))
 unfolding on_checked
-checked_says ts ev st f h checked.Fine = h
-checked_says ts ev st f h (checked.Refused r) = tt
+checked_says ts ev st f h (Ok _) = h
+checked_says ts ev st f h (outcome.Err r) = tt
 
 parse_says : (ts : Tokens) (ev st : List ℕ) → Says ts (parse_of ts ev st)
 unfolding parse_of top_of
@@ -132,12 +129,12 @@ answered ts consumed l a =
     (subst (λ (z : reader.Answer). Says ts z) a.is_read (parse_says ts a.events a.room) (subst NoErrors a.are_steps a.no_errors))
 
 -- a list that is read passed its checks
-passed : (ev st : List ℕ) (f : Unit {0} → reader.Answer) (c : Checked) (consumed n : ℕ) (e s : List ℕ) → on_checked c f (λ r. (parsed.Refused r, ev, st)) ≡ (parsed.Steps consumed n, e, s) → c ≡ checked.Fine
+passed : (ev st : List ℕ) (f : Unit {0} → reader.Answer) (c : Checked) (consumed n : ℕ) (e s : List ℕ) → on_checked c f (λ r. (outcome.Err r, ev, st)) ≡ (Ok (record { consumed = consumed; steps = n }), e, s) → c ≡ Ok tt
 unfolding on_checked
-passed ev st f checked.Fine consumed n e s q = refl
-passed ev st f (checked.Refused r) consumed n e s q = absurd (let y : parsed.Refused r ≡ parsed.Steps consumed n = ap (λ (z : reader.Answer). z.0) q in let z : ◌≡◌ {A = ℕ} 0 1 = cc in omega arith)
+passed ev st f (Ok _) consumed n e s q = refl
+passed ev st f (outcome.Err r) consumed n e s q = absurd (let y : _ = ap (λ (z : reader.Answer). z.0) q in let z : ◌≡◌ {A = ℕ} 0 1 = cc in omega arith)
 
-raw_tokens : (ts : Tokens) (consumed : ℕ) (l : List ℕ) → Answer ts consumed l → tokens_of ts ≡ checked.Fine
+raw_tokens : (ts : Tokens) (consumed : ℕ) (l : List ℕ) → Answer ts consumed l → tokens_of ts ≡ Ok tt
 unfolding parse_of
 raw_tokens ts consumed l a = passed a.events a.room _ (tokens_of ts) consumed a.many a.events' a.room' a.is_read
 

@@ -1,8 +1,10 @@
--- What must hold of the events E and of the position q before a program, so that Q holds of its answer and of both then. A refusal is always right, and so is an error: it stays (Errors). `sound` is the one proof about `run`; `after` and `round` are sequence and loop. Assumes nothing.
+-- What must hold of the events E and of the position q before a program, so that Q holds of its answer and of both then. A refusal is always right, and so is an error: it stays (Errors). `sound` is the one proof about `run`; `after` and `round` are sequence and loop. (`Err` is an error event, a refusal `outcome.Err`.) Assumes nothing.
+use Rattle.std.proofs.Common.{Ok, Some, None}
 use mathlib.Core.Path.{◌≡◌, sym, subst}
 use mathlib.Core.List.{List, [], ◌∷◌, ◌++◌}
 use mathlib.Core.Bool.{Bool, true, false}
 use mathlib.Core.Logic.{◌⊎◌, inl, inr}
+use Rattle.std.specs.declared.result.Result.TheVariants as outcome
 use Prim.Native.Nat.{ℕ, zero, suc, ◌+◌, ◌<◌}
 use lib.ListN.{length}
 use lib.Dec.{eqb, ltb}
@@ -13,18 +15,10 @@ use Rattle.input.specs.declared.Refusal.{Refusal}
 use Rattle.event.specs.Event as event
 use Rattle.event.specs.Event.{Event, finish, token, live, spent, named}
 use Rattle.event.specs.declared.State.{State}
-use Rattle.parser.specs.Calls.{start_of, complete_of, precede_of, extend_of, eat_of, bump_any_of, error_of, split_of}
+use Rattle.parser.specs.Calls.{start_of, complete_of, precede_of, extend_of, eat_of, bump_any_of, error_of, split_of, Opened, Closed, Taken, Parted}
 use Rattle.parser.specs.Prog.{Prog, give, refuse, look, start, complete, abandon, precede, extend, eat, bump_any, error, split, then, turns, Reply, fine, bad, Ran, run, on_opened, on_closed, on_taken, on_parted}
 use Rattle.parser.specs.declared.Marker.{Marker}
 use Rattle.parser.specs.declared.CompletedMarker.{CompletedMarker}
-use Rattle.parser.specs.declared.Opened.{Opened}
-use Rattle.parser.specs.declared.Opened.TheVariants as opened
-use Rattle.parser.specs.declared.Closed.{Closed}
-use Rattle.parser.specs.declared.Closed.TheVariants as closed
-use Rattle.parser.specs.declared.Taken.{Taken}
-use Rattle.parser.specs.declared.Taken.TheVariants as taken
-use Rattle.parser.specs.declared.Parted.{Parted}
-use Rattle.parser.specs.declared.Parted.TheVariants as parted
 use Rattle.parser.proofs.Moves.{Kept, moved_by}
 use Rattle.tree.proofs.Machine.{Shows, shows_is, OpenedAt, ClosedAt, TakenAt, PartedAt, start_at, eat_at, bump_at, complete_at, precede_at, extend_at, split_at}
 use Rattle.tree.proofs.Errors.{Err, an_error_stays, error_err}
@@ -66,27 +60,27 @@ kept_sat Q (bad n) e h = tt
 
 -- what follows a call, by its answer
 module _ {A : Type 0} (P : A → Type 0) where
-  opened_go : (Q : Opened × List ℕ → Type 0) (x : Opened) (e : List ℕ) (k0 : State → Marker → List ℕ → A) (k1 : Refusal → List ℕ → A) → Q (x, e) → ((s : State) (o : Marker) (e : List ℕ) → Q (opened.Open s o, e) → P (k0 s o e)) → ((r : Refusal) (e : List ℕ) → P (k1 r e)) → P (on_opened (x, e) k0 k1)
+  opened_go : (Q : Opened × List ℕ → Type 0) (x : Opened) (e : List ℕ) (k0 : State → Marker → List ℕ → A) (k1 : Refusal → List ℕ → A) → Q (x, e) → ((s : State) (o : Marker) (e : List ℕ) → Q (Ok (s, o), e) → P (k0 s o e)) → ((r : Refusal) (e : List ℕ) → P (k1 r e)) → P (on_opened (x, e) k0 k1)
   unfolding on_opened
-  opened_go Q (opened.Open s o) e k0 k1 q f g = f s o e q
-  opened_go Q (opened.Refused r) e k0 k1 q f g = g r e
+  opened_go Q (Ok (s, o)) e k0 k1 q f g = f s o e q
+  opened_go Q (outcome.Err r) e k0 k1 q f g = g r e
 
-  closed_go : (Q : Closed × List ℕ → Type 0) (x : Closed) (e : List ℕ) (k0 : State → CompletedMarker → List ℕ → A) (k1 : Refusal → List ℕ → A) → Q (x, e) → ((s : State) (m : CompletedMarker) (e : List ℕ) → Q (closed.Done s m, e) → P (k0 s m e)) → ((r : Refusal) (e : List ℕ) → P (k1 r e)) → P (on_closed (x, e) k0 k1)
+  closed_go : (Q : Closed × List ℕ → Type 0) (x : Closed) (e : List ℕ) (k0 : State → CompletedMarker → List ℕ → A) (k1 : Refusal → List ℕ → A) → Q (x, e) → ((s : State) (m : CompletedMarker) (e : List ℕ) → Q (Ok (s, m), e) → P (k0 s m e)) → ((r : Refusal) (e : List ℕ) → P (k1 r e)) → P (on_closed (x, e) k0 k1)
   unfolding on_closed
-  closed_go Q (closed.Done s m) e k0 k1 q f g = f s m e q
-  closed_go Q (closed.Refused r) e k0 k1 q f g = g r e
+  closed_go Q (Ok (s, m)) e k0 k1 q f g = f s m e q
+  closed_go Q (outcome.Err r) e k0 k1 q f g = g r e
 
-  taken_go : (Q : Taken × List ℕ → Type 0) (x : Taken) (e : List ℕ) (k0 : State → List ℕ → A) (k1 : List ℕ → A) (k2 : Refusal → List ℕ → A) → Q (x, e) → ((s : State) (e : List ℕ) → Q (taken.Took s, e) → P (k0 s e)) → ((e : List ℕ) → Q (taken.No, e) → P (k1 e)) → ((r : Refusal) (e : List ℕ) → P (k2 r e)) → P (on_taken (x, e) k0 k1 k2)
+  taken_go : (Q : Taken × List ℕ → Type 0) (x : Taken) (e : List ℕ) (k0 : State → List ℕ → A) (k1 : List ℕ → A) (k2 : Refusal → List ℕ → A) → Q (x, e) → ((s : State) (e : List ℕ) → Q (Ok (Some s), e) → P (k0 s e)) → ((e : List ℕ) → Q (Ok None, e) → P (k1 e)) → ((r : Refusal) (e : List ℕ) → P (k2 r e)) → P (on_taken (x, e) k0 k1 k2)
   unfolding on_taken
-  taken_go Q (taken.Took s) e k0 k1 k2 q f0 f1 f2 = f0 s e q
-  taken_go Q taken.No e k0 k1 k2 q f0 f1 f2 = f1 e q
-  taken_go Q (taken.Refused r) e k0 k1 k2 q f0 f1 f2 = f2 r e
+  taken_go Q (Ok (Some s)) e k0 k1 k2 q f0 f1 f2 = f0 s e q
+  taken_go Q (Ok None) e k0 k1 k2 q f0 f1 f2 = f1 e q
+  taken_go Q (outcome.Err r) e k0 k1 k2 q f0 f1 f2 = f2 r e
 
-  parted_go : (Q : Parted × List ℕ → Type 0) (x : Parted) (e : List ℕ) (k0 : State → CompletedMarker → List ℕ → A) (k1 : List ℕ → A) (k2 : Refusal → List ℕ → A) → Q (x, e) → ((s : State) (m : CompletedMarker) (e : List ℕ) → Q (parted.Split s m, e) → P (k0 s m e)) → ((e : List ℕ) → Q (parted.No, e) → P (k1 e)) → ((r : Refusal) (e : List ℕ) → P (k2 r e)) → P (on_parted (x, e) k0 k1 k2)
+  parted_go : (Q : Parted × List ℕ → Type 0) (x : Parted) (e : List ℕ) (k0 : State → CompletedMarker → List ℕ → A) (k1 : List ℕ → A) (k2 : Refusal → List ℕ → A) → Q (x, e) → ((s : State) (m : CompletedMarker) (e : List ℕ) → Q (Ok (Some (s, m)), e) → P (k0 s m e)) → ((e : List ℕ) → Q (Ok None, e) → P (k1 e)) → ((r : Refusal) (e : List ℕ) → P (k2 r e)) → P (on_parted (x, e) k0 k1 k2)
   unfolding on_parted
-  parted_go Q (parted.Split s m) e k0 k1 k2 q f0 f1 f2 = f0 s m e q
-  parted_go Q parted.No e k0 k1 k2 q f0 f1 f2 = f1 e q
-  parted_go Q (parted.Refused r) e k0 k1 k2 q f0 f1 f2 = f2 r e
+  parted_go Q (Ok (Some (s, m))) e k0 k1 k2 q f0 f1 f2 = f0 s m e q
+  parted_go Q (Ok None) e k0 k1 k2 q f0 f1 f2 = f1 e q
+  parted_go Q (outcome.Err r) e k0 k1 k2 q f0 f1 f2 = f2 r e
 
 -- the position and the list, written otherwise
 module _ {A : Type 0} (ts : Tokens) (p : Prog A) (Q : Post A) where

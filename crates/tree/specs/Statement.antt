@@ -1,9 +1,8 @@
 -- What the answers of the reader mean, as trees: the statements that proofs/Theorem.antt proves.
-use Rattle.std.specs.Prelude.{ℕ, ◌<◌, ◌≡◌, List, [], ◌∷◌, take}
+use Rattle.std.specs.Prelude.{Ok, ℕ, ◌<◌, ◌≡◌, List, [], ◌∷◌, take}
 use Rattle.input.specs.SyntaxKind.{FAULT}
 use Rattle.input.specs.Input.{Tokens}
 use Rattle.reader.specs.Reader.{parse_of}
-use Rattle.reader.specs.declared.Parsed.TheVariants as parsed
 use Rattle.tree.specs.Tree.{Tree, leaves, raws, Covers, flat}
 use Rattle.tree.specs.Grouped.{Grouped, NoRanges}
 
@@ -26,7 +25,7 @@ pub record Answer (ts : Tokens) (consumed : ℕ) (steps : List ℕ) : Type 0 whe
   pub many : ℕ
   pub events' : List ℕ
   pub room' : List ℕ
-  pub is_read : parse_of ts events room ≡ (parsed.Steps consumed many, events', room')
+  pub is_read : parse_of ts events room ≡ (Ok (record { consumed = consumed; steps = many }), events', room')
   pub are_steps : steps ≡ take many room'
   pub no_errors : NoErrors steps
 

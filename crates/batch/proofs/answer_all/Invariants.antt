@@ -1,9 +1,6 @@
--- `answer_all` ends: the turns that are left fall. The lent buffers keep their lengths.
-use Rattle.std.proofs.Common.{◌≡◌, length}
+-- The bytes that are read and unused stand in the buffer, which keeps its length. Assumes nothing.
+use Rattle.std.proofs.Common.{◌≡◌, ◌≤◌, length}
 use Rattle.batch.proofs.answer_all.Given as goal
 
-abbrev pub invariant-loop-turns : goal.invariant-loop-turns
-invariant-loop-turns g l = (length l.buf ≡ length l.initial.buf) × (length l.events ≡ length l.initial.events) × (length l.steps ≡ length l.initial.steps) × (length l.out ≡ length l.initial.out)
-
-abbrev pub decreases-loop-turns : goal.decreases-loop-turns
-decreases-loop-turns g l = l.turns
+abbrev pub invariant-loop : goal.invariant-loop
+invariant-loop g l = (l.run.from ≤ l.run.to) × (l.run.to ≤ length l.buf) × (length l.buf ≡ length l.initial.buf)

@@ -1,0 +1,16 @@
+use Rattle.std.proofs.Common.{rules}
+use Rattle.grammar.proofs.Laws.{grammar}
+use Rattle.grammar.specs.Expressions.{method_head}
+use Rattle.grammar.proofs.expressions.method_head.Goals as goal
+
+pub returns-in_err-state : goal.returns-in_err-state
+unfolding method_head
+returns-in_err-state c = search (grammar, c.in_err-state.was, rules) depth 10
+
+pub returns-in_err-state-2 : goal.returns-in_err-state-2
+unfolding method_head
+returns-in_err-state-2 c = search (grammar, c.in_ok-state.was, c.in_err-state-2.was, rules) depth 10
+
+pub returns : goal.returns
+unfolding method_head
+returns c = search (grammar, c.in_ok-state.was, c.in_ok-state-2.was, rules) depth 10

@@ -1,9 +1,0 @@
--- `reading_of` meets its rule: the search follows the rule along what the callees answered. Assumes nothing.
-use Rattle.grammar.specs.Views.{reading_of}
-use borrow.Author.Rules.{rules}
-use Rattle.grammar.proofs.expressions.reading_of.Statement.{statement}
-use Rattle.grammar.proofs.expressions.reading_of.Tie as tie
-
-pub reading_of_spec : {M : Type 1} → statement M
-unfolding reading_of
-reading_of_spec = tie.close (tie.spec (λ c. search rules) (λ c. search rules) (λ c. cc) (λ c. cc))

@@ -1,0 +1,17 @@
+use Rattle.std.proofs.Common.{rules}
+use Rattle.parser.specs.Calls.{bump_any_of, room_for}
+use Rattle.parser.proofs.Work.{work, room}
+use Rattle.base.proofs.Laws.{passed_on, passed_beside}
+use Rattle.parser.proofs.inner.bump_any.Goals as goal
+
+pub returns-then-len-at : goal.returns-then-len-at
+unfolding bump_any_of room_for
+returns-then-len-at c = search (work, room, passed_on, passed_beside, rules) depth 10
+
+pub returns-then-not-room_for : goal.returns-then-not-room_for
+unfolding bump_any_of room_for
+returns-then-not-room_for c = search (work, room, passed_on, passed_beside, rules) depth 10
+
+pub returns : goal.returns
+unfolding bump_any_of room_for
+returns c = search (work, room, passed_on, passed_beside, rules) depth 10

@@ -1,0 +1,17 @@
+use Rattle.std.proofs.Common.{rules}
+use Rattle.parser.specs.Calls.{error_of, room_for}
+use Rattle.parser.proofs.Work.{work, room}
+use Rattle.base.proofs.Laws.{passed_on, passed_beside}
+use Rattle.parser.proofs.inner.error.Goals as goal
+
+pub returns-then-not-is_code : goal.returns-then-not-is_code
+unfolding error_of room_for
+returns-then-not-is_code c = search (work, room, passed_on, passed_beside, rules) depth 10
+
+pub returns-then-not-room_for : goal.returns-then-not-room_for
+unfolding error_of room_for
+returns-then-not-room_for c = search (work, room, passed_on, passed_beside, rules) depth 10
+
+pub returns : goal.returns
+unfolding error_of room_for
+returns c = search (work, room, passed_on, passed_beside, rules) depth 10
