@@ -1,4 +1,4 @@
--- One law for each case of an answer, by which `search` follows a rule along what a match found; and the law of two lists lent in part.
+-- The law of two lists lent in part.
 -- Assumes nothing.
 use Rattle.std.proofs.Common.{Result, Ok, Err}
 use Prim.Native.Nat.{ℕ}

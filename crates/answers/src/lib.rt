@@ -12,7 +12,7 @@ use reader::Parsed;
 use stored::{Form, Unread};
 
 // How many tokens a list has that the program `read` reads: "refuses 3 at 0 at the first length above 256".
-#[derive(Clone, Copy)]
+#[derive(Clone, Copy, Debug, PartialEq, Eq)]
 pub struct Tokens(pub u16);
 
 impl Tokens {
@@ -20,7 +20,7 @@ impl Tokens {
 }
 
 // How many places a decimal number has. The largest u64 has as many as `LIMIT`.
-#[derive(Clone, Copy)]
+#[derive(Clone, Copy, Debug, PartialEq, Eq)]
 pub struct Places(pub usize);
 
 impl Places {
@@ -30,7 +30,7 @@ impl Places {
 }
 
 // The bytes of a text: at most `LINE` for a line of a number, and `HEAD` for the first line of an answer.
-#[derive(Clone, Copy)]
+#[derive(Clone, Copy, Debug, PartialEq, Eq)]
 pub struct Text(pub usize);
 
 impl Text {
@@ -40,11 +40,13 @@ impl Text {
 }
 
 // Room for events and steps: "Room of 16n + 16 events and as many steps is never refused by 4 or 5."
-#[derive(Clone, Copy)]
+#[derive(Clone, Copy, Debug, PartialEq, Eq)]
 pub struct Room(pub usize);
 
 impl Room {
     pub const EACH: usize = 16;
+    // Of a list of as many tokens as `Tokens::LIMIT`.
+    pub const MOST: usize = Room::EACH * (Tokens::LIMIT as usize) + Room::EACH;
 }
 
 fn digit(n: u64) -> u8
@@ -70,6 +72,7 @@ impl<'a> Writer<'a> {
         Writer { out, end: at }
     }
 
+    // The place is tested by hand: of a write through `get_mut` a proof knows the list's length alone.
     fn byte(&mut self, b: u8)
         ensures { Wrote self.old (b ∷ []) self.new }
     {
@@ -161,7 +164,9 @@ impl<'a> Writer<'a> {
     }
 }
 
-// This function and the next four write over a list and a place what the writer's methods do, and answer where the text ends.
+// This function and `decimal`, `line`, `put_refusal` and `put_answer` write over a list and a place what the writer's methods do, and answer
+// where the text ends: public calls from before there was a writer, with the promises that they had. `as` of a usize stays, since the library
+// has no `From` for it.
 pub fn word(out: &mut [u8], at: usize, text: &[u8]) -> usize
     ensures { Put out.old at text.now result out.new }
 {

@@ -1,4 +1,4 @@
--- Laws for `search`: for each case of an answer enum what reply it stands for, for a call as the last thing of a rule, for an early return. Each is a step of congruence. Assumes nothing.
+-- Laws for `search`: for an answer without a marker and each case of a turn what reply it stands for, for a node as one of these, for a call as the last thing of a rule, for an early return. Each is a step of congruence. Assumes nothing.
 use Rattle.std.proofs.Common.{Result, Ok, Err, Option, Some, None}
 use mathlib.Core.Path.{◌≡◌, refl, sym, ap, ◌∙◌}
 use mathlib.Core.List.{List}

@@ -1,4 +1,5 @@
-// What the grammar reads without an expression inside: taking, errors, names, paths, types.
+// What the grammar reads without an expression inside: taking, errors, names, paths, types. A contract speaks of the tokens and of
+// the events, so a function is lent both where its body needs one.
 #![tactic(auto)]
 
 pub mod atom;

@@ -57,7 +57,7 @@ fn first_path(
     complete(events, state, m, PATH)
 }
 
-// The `::` and names that follow a path.
+// The `::` and names that follow a path. A turn gives the next state, and no index is counted.
 fn path_rest(
     tokens: &Tokens,
     events: &mut [u64],

@@ -9,13 +9,8 @@ use input::Position;
 use std::io::{self, Read};
 use stored::Section;
 
-// The bytes of a form: the longest has as many as `LIMIT`.
-#[derive(Clone, Copy)]
-pub struct Bytes(pub usize);
-
-impl Bytes {
-    pub const LIMIT: usize = 2 * (Section::HEAD + Position::LIMIT);
-}
+// The bytes of the longest form.
+const FORM: usize = 2 * (Section::HEAD + Position::LIMIT);
 
 // The longest text of an answer, and what is printed at a time, at most.
 const ANSWER: usize = Text::HEAD + Text::LINE * State::LIMIT;
@@ -25,8 +20,9 @@ const PRINTED: usize = 2097152;
 // How much of the input stands in the buffer, at most.
 const READ: usize = 65536;
 
-// How far the input is: the bytes from `from` to `to` are read and unused.
-#[derive(Clone, Copy)]
+// How far the input is: the bytes from `from` to `to` of the buffer are read and unused. It is where the loop stands, with places and no slices,
+// since the buffer is moved.
+#[derive(Clone, Copy, Debug, PartialEq, Eq)]
 pub struct Run {
     pub from: usize,
     pub to: usize,
@@ -42,7 +38,7 @@ fn refill(input: &mut impl Read, buf: &mut [u8], run: Run) -> io::Result<Run>
     ensures in_bounds { IfOk result (λ next. next.to ≤ length buf.new) }
 {
     let kept = run.to - run.from;
-    if run.ended || Bytes::LIMIT <= kept {
+    if run.ended || FORM <= kept {
         return Ok(run);
     }
     buf.copy_within(run.from..run.to, 0);

@@ -7,10 +7,8 @@ use stored::{Form, Section, Unread};
 
 // The bytes of two forms of the longest kind, and one behind them: "nothing after".
 const FORMS: usize = 4 * (Section::HEAD + Tokens::LIMIT as usize) + 1;
-// "Room of 16n + 16 events and as many steps".
-const ROOM: usize = Room::EACH * (Tokens::LIMIT as usize) + Room::EACH;
 // A line for each step: an index and two values are at most as long as two numbers.
-const TEXT: usize = Text::HEAD + 2 * Text::LINE * ROOM;
+const TEXT: usize = Text::HEAD + 2 * Text::LINE * Room::MOST;
 
 // What stands behind the first form; nothing where that is refused.
 fn behind(bytes: &[u8], held: Result<Form, Unread>) -> &[u8] {
@@ -24,9 +22,9 @@ fn main(rt: HostRuntime) -> io::Result<()> {
     let mut buf = [0u8; FORMS];
     let have = streams::read_full(&mut rt.stdin(), &mut buf)?;
     let bytes = given(&buf, have);
-    let mut events = [0u64; ROOM];
-    let mut steps = [0u32; ROOM];
-    let mut other_steps = [0u32; ROOM];
+    let mut events = [0u64; Room::MOST];
+    let mut steps = [0u32; Room::MOST];
+    let mut other_steps = [0u32; Room::MOST];
     let mut out = [0u8; TEXT];
     let held = answers::first_limited(bytes, Tokens::LIMIT);
     let answer = answers::answer_of(bytes, held, &mut events, &mut steps);

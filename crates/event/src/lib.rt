@@ -101,7 +101,7 @@ fn entry_of(tag: u64, rank: u64, flag: u64, node: u64, offset: u64) -> u64
     tag + RANK_PLACE * rank + FLAG_PLACE * flag + NODE_PLACE * node + OFFSET_PLACE * offset
 }
 
-// A bool as the flag of an entry.
+// A bool as the flag of an entry, with the bound that callers need.
 fn flag_by(set: bool) -> u64
     ensures value { result ≡ flag_by set }
     ensures upper_bound { result < 2 }
@@ -225,7 +225,7 @@ pub fn decodes(x: u64) -> bool
     x == again(x)
 }
 
-// The entry at a place, 0 past the end.
+// The entry at a place, 0 past the end: one call of the library, under a name.
 pub fn event_at(events: &[u64], at: usize) -> u64
     ensures { result ≡ get_or events.now at 0 }
 {

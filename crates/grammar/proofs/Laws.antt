@@ -1,4 +1,4 @@
--- What the grammar's own proofs use, as laws for `search`: for each case of an answer enum what reply it stands for, for a conversion of one enum into another, for `let .. else`, for an early return, for the depth. Each is a step of congruence. Assumes nothing.
+-- What the grammar's own proofs use, as laws for `search`: for each case of a turn what reply it stands for, for a node as a turn of the postfix forms, for taking a kind with one end, for the depth, for a loop. Each is a step of congruence. Assumes nothing.
 use Rattle.std.proofs.Common.{Result, Ok, Err, Option, Some, None}
 use mathlib.Core.Path.{◌≡◌, refl, sym, ap, subst, ◌∙◌}
 use mathlib.Core.List.{List}

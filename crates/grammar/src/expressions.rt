@@ -1,4 +1,5 @@
-// Expressions: operators by strength, prefixes, postfix forms, arguments.
+// Expressions: operators by strength, prefixes, postfix forms, arguments. A contract speaks of the tokens and of the events, so a function is
+// lent both where its body needs one.
 ghost use Rattle.std.specs.Prelude.{◌≡◌};
 ghost use Rattle.parser.specs.Prog.{run};
 ghost use Rattle.atoms.specs.Views.{moved_reply, turn_reply};
@@ -120,8 +121,8 @@ fn begun(
     Ok((state, Some(c)))
 }
 
-// The operators of at least strength b that follow an expression. This loop and those of `postfix_expr` and `args` stay three: one loop for all
-// would be handed its turn as a closure over the lent events, and is no plainer.
+// The operators of at least strength b that follow an expression. This loop, those of `postfix_expr` and `args`, and that of
+// a path's names stay four: one loop for all would be handed its turn as a closure over the lent events, and is no plainer.
 #[cycle(readers)]
 fn ops(
     tokens: &Tokens,
@@ -325,6 +326,7 @@ fn leading(
 }
 
 // The postfix forms that follow an expression. e.g. a(1)[2].b?
+// A turn gives the next state, as in `ops`.
 #[cycle(readers)]
 fn postfix_expr(
     tokens: &Tokens,
@@ -676,6 +678,7 @@ fn arg_list(
     )
 }
 
+// The arguments, a turn each. A turn gives the next state, as in `ops`.
 #[cycle(readers)]
 fn args(tokens: &Tokens, events: &mut [u64], state: State, inner: Depth) -> Result<State, Refusal>
     ensures { (moved_reply result, events.new) ≡ run tokens.now (arguments tokens.now (expr_bp inner.0 tokens.now)) state events.old }

@@ -131,6 +131,7 @@ const GLUED: [Glued; 24] = [
     row!(SHREQ: R_ANGLE R_ANGLE EQ),
 ];
 
+// Both bounds by hand: with `contains` goals about the library's order of bytes stayed open.
 fn within(low: u8, high: u8, byte: u8) -> bool
     ensures { result ≡ within low high byte }
 {
@@ -188,7 +189,7 @@ pub fn width_of(kind: u8) -> u8
     }
 }
 
-// The byte at a position of a list, 0 past its end.
+// The byte at a position of a list, 0 past its end: one call of the library, under a name, as `event::event_at` and `operand::step_at` are.
 fn byte_at(list: &[u8], at: usize) -> u8
     ensures { result ≡ get_or list.now at 0 }
 {
@@ -228,6 +229,19 @@ impl<'a> Tokens<'a> {
         ensures { result ≡ lent kinds.now joints.now }
     {
         Tokens { kinds, joints }
+    }
+
+    // The list of kinds, and the list of joint bytes, as they are lent.
+    pub fn kinds(&self) -> &'a [u8]
+        ensures { result.now ≡ self.now.kinds }
+    {
+        &self.kinds[..]
+    }
+
+    pub fn joints(&self) -> &'a [u8]
+        ensures { result.now ≡ self.now.joints }
+    {
+        &self.joints[..]
     }
 
     // How many there are.

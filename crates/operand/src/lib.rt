@@ -7,10 +7,10 @@ ghost use Rattle.operand.specs.Operand.{is_enter, leaves_of, match_of, end_of, o
 use input::Refusal;
 use input::syntax_kind::{ENDS_IN_DOT, ENTER, ERROR, FLOAT_SPLIT, LEAVE, PATH_TYPE};
 
-// The refusal of an index that is no enter, or an enter never matched.
+// The refusal of an index that is no enter, or an enter never matched: a number, as a refusal's are, and no enum.
 pub const NO_OPERAND: u8 = 16;
 
-// The enters of the first and the last node.
+// The enters of the first and the last node, with `as` since a constant calls no `From`.
 const FIRST: u32 = ENTER + ERROR as u32;
 
 const LAST: u32 = ENTER + PATH_TYPE as u32;
@@ -18,7 +18,7 @@ const LAST: u32 = ENTER + PATH_TYPE as u32;
 // A split that ends in a dot.
 const DOT_SPLIT: u32 = FLOAT_SPLIT + ENDS_IN_DOT;
 
-// The step at a place, 0 past the end.
+// The step at a place, 0 past the end: one call of the library, under a name.
 pub fn step_at(steps: &[u32], at: usize) -> u32
     ensures { result ≡ get_or steps.now at 0 }
 {
@@ -93,9 +93,6 @@ pub fn check_operand(steps: &[u32], at: usize) -> Result<(), Refusal>
 {
     match end_of(steps, at) {
         Some(_) => Ok(()),
-        None => Err(Refusal {
-            number: NO_OPERAND,
-            place: at,
-        }),
+        None => Err(Refusal::new(NO_OPERAND, at)),
     }
 }

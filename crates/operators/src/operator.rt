@@ -75,7 +75,7 @@ fn angle_op(tokens: &Tokens, at: usize, assigned: u8, shift: u8, or_equal: u8, k
     left(kind, 5)
 }
 
-// `=>` is no operator.
+// `=>` is no operator. This function and the next two differ in shape, and not in numbers alone.
 fn eq_op(tokens: &Tokens, at: usize) -> Op
     ensures { result ≡ eq_op tokens.now at }
 {

@@ -1,4 +1,4 @@
-// Sets of raw kinds.
+// Sets of raw kinds. Each is one `matches!`.
 #![tactic(auto, using(base::proofs::Laws::tests), unfolding(crate::specs::TokenSet::is_first, crate::specs::TokenSet::is_closing, crate::specs::TokenSet::ends_arguments, crate::specs::TokenSet::is_prefix, crate::specs::TokenSet::is_field_name, crate::specs::TokenSet::outside_atom, crate::specs::TokenSet::outside_type))]
 
 ghost use Rattle.std.specs.Prelude.{◌≡◌};

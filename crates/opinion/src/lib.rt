@@ -40,7 +40,8 @@ pub struct Fault {
     pub at: usize,
 }
 
-// How far the steps are checked: raw tokens taken, nodes open, whether a root was entered, the first fault that is known.
+// How far the steps are checked: raw tokens taken, nodes open, whether a root was entered, the first fault that is known. Like the types above
+// it waits for the checker; the definitions of specs/ walk without it.
 #[derive(Clone, Copy, Debug, PartialEq, Eq)]
 pub struct Walk {
     pub pos: usize,

@@ -274,7 +274,7 @@ module _ {A B : Type 0} {out : Ran B} (ts : Tokens) (s : State) (ev : List ℕ) 
   pub then_none : {s1 : State} {v : Perhaps A} → (x, e) ≡ run ts p s ev → x ≡ fine s1 v → v ≡ none → out ≡ run ts (k none) s1 e → out ≡ run ts (then p k) s ev
   then_none {s1} r q w h = then_fine ts s ev p k r (q ∙ ap (λ z. fine s1 z) w) h
 
--- the same where the code's enum X stands for a reply by the view v: from these two each enum gets its own laws in a line
+-- the same where an answer of type X stands for a reply by the view v
 module _ {X A B : Type 0} {out : Ran B} (v : X → Reply A) (ts : Tokens) (s : State) (ev : List ℕ) (p : Prog A) (k : A → Prog B) {x y : X} {e : List ℕ} where
   pub view_fine : {s1 : State} {a : A} → (v x, e) ≡ run ts p s ev → x ≡ y → v y ≡ fine s1 a → out ≡ run ts (k a) s1 e → out ≡ run ts (then p k) s ev
   view_fine r q w h = then_fine ts s ev p k r (ap v q ∙ w) h

@@ -36,6 +36,8 @@ fn is_closed(events: &[u64], state: State, m: usize) -> bool
     m < state.count && event::is_named(event::event_at(events, m))
 }
 
+// This function and the next three, and `lead_start` below, put one entry each, and their clauses say which: one function over an entry's maker
+// would say less. `as u32` and `as u8` narrow what is proved to fit.
 // A start gets its name.
 fn name_start(events: &mut [u64], at: usize, node: u8)
     ensures { events.new ≡ set events.old at (named_entry (get_or events.old at 0) node) }

@@ -1,4 +1,5 @@
-// The event machine: each call on a state by value and a lent list of events. A call here checks what it is lent, and then does its work in `inner`.
+// The event machine: each call on a state by value and a lent list of events. A call here checks what it is lent, and then does its work in `inner`. The nine calls
+// stay beside the nine of `inner`: two lines each, and what they check differs.
 #![tactic(auto)]
 
 pub mod inner;
@@ -11,7 +12,8 @@ use event::State;
 use input::syntax_kind::UNSOUND;
 use input::{Position, Refusal, Tokens};
 
-// An open marker: the number of a start event that is neither completed nor spent.
+// An open marker: the number of a start event that is neither completed nor spent. It and the closed one are two types, so that neither is taken
+// for the other.
 #[derive(Clone, Copy, Debug, PartialEq, Eq)]
 pub struct Marker(pub usize);
 

@@ -12,14 +12,14 @@ use input::syntax_kind::{
 };
 use input::{Position, Refusal};
 
-// How far the steps are written, and whether the event before was a split.
-#[derive(Clone, Copy)]
+// How far the steps are written, and whether the event before was a split: where the loop of `write` stands, and no value with its flag.
+#[derive(Clone, Copy, Debug, PartialEq, Eq)]
 struct Written {
     steps: usize,
     after: bool,
 }
 
-// The forward offset of an entry, where it has one: 0 stands for none.
+// The forward offset of an entry, where it has one. An offset of 0 in the entry is none.
 #[tactic(auto, using(crate::proofs::Laws::whether_is, crate::proofs::Laws::whether_isnt), unfolding(crate::specs::Process::forward_of))]
 fn forward_of(x: u64) -> Option<usize>
     ensures value { unwrap_or result 0 ≡ forward_of x }
@@ -34,6 +34,7 @@ fn forward_of(x: u64) -> Option<usize>
     }
 }
 
+// Here and below the list and the count are lent, and no part of the list: the definitions `lands_at`, `chain_of` and `enter_of` speak of both.
 // "forward offsets land on later starts in the list"
 fn lands_at(events: &[u64], n: usize, i: usize) -> bool
     requires { (i < n) × (n ≤ length events.now) }
@@ -278,16 +279,10 @@ pub fn process(
     ensures { (result, events.new, steps.new) ≡ process_of state events.old steps.old }
 {
     if !sound(events, state) {
-        return Err(Refusal {
-            number: UNSOUND,
-            place: 0,
-        });
+        return Err(Refusal::new(UNSOUND, 0));
     }
     if steps.len() < count_steps(events, state.count) {
-        return Err(Refusal {
-            number: STEPS_FULL,
-            place: state.pos.0,
-        });
+        return Err(Refusal::new(STEPS_FULL, state.pos.0));
     }
     let written = write(events, steps, state.count);
     clear(events);

@@ -1,6 +1,6 @@
 -- What each answer of the code is of its rule: for the step at an index, for one step more, for the rest. Assumes nothing.
 use Rattle.std.proofs.Common.{Result, Ok, Err}
-use mathlib.Core.Path.{◌≡◌, ap, subst}
+use mathlib.Core.Path.{◌≡◌, ap, subst, ◌∙◌}
 use mathlib.Core.Bool.{true, false}
 use mathlib.Core.List.{List, []}
 use mathlib.Core.Logic.{⊎_elim}
@@ -10,6 +10,10 @@ use native.Mathlib.Numerals.{add-one}
 use lib.ListN.{length, get_or, take, drop, length-drop}
 use lib.Seq.{take_all}
 use lib.Dec.{ltb}
+use Rattle.std.specs.List.{zip, enumerate_from}
+use Rattle.std.proofs.lemmas.List.{get_or_default}
+use Rattle.std.proofs.lemmas.List.FromFn.{length-enumerate_from, get_or-enumerate_from}
+use Rattle.std.proofs.lemmas.Slice.Zip.{length-zip, get_or-zip}
 use borrow.Author.Tests.{eq-eqb, ne_eqb, lt-ltb, le-ltb, ltb-true, ltb-false}
 use Rattle.base.specs.Base.{whether}
 use Rattle.input.proofs.Laws.{true_or_false}
@@ -37,11 +41,28 @@ module _ (a b : List ℕ) (i : ℕ) {x y : ℕ} (p : x ≡ get_or a i 0) (q : y 
   unfolding step_text whether
   step_other e = rw (← p, ← q, ne_eqb x y e)
 
-  pub put_same : {v : Writer} → x ≡ y → Wrote v (step_text a b i) v
+  put_same : {v : Writer} → x ≡ y → Wrote v (step_text a b i) v
   put_same {v} e = told (step_same e) (wrote_nothing v)
 
-  pub put_other : {v w : Writer} → (x ≡ y → ⊥) → Wrote v (differ_text i x y) w → Wrote v (step_text a b i) w
+  put_other : {v w : Writer} → (x ≡ y → ⊥) → Wrote v (differ_text i x y) w → Wrote v (step_text a b i) w
   put_other e h = told (step_other e) h
+
+-- what a loop over both lists has at an index
+module _ (a b : List ℕ) where
+  pub record PairAt (k i x y : ℕ) : Type 0 where
+    pub index : i ≡ k
+    pub in_first : x ≡ get_or a k 0
+    pub in_second : y ≡ get_or b k 0
+
+  pub pair_at : (k : ℕ) {i x y : ℕ} (d : ℕ × (ℕ × ℕ)) → k < length (enumerate_from 0 (zip a b)) → ◌≡◌ {A = ℕ × (ℕ × ℕ)} (i, (x, y)) (get_or (enumerate_from 0 (zip a b)) k d) → PairAt k i x y
+  pair_at k d h q =
+      let n : length (enumerate_from 0 (zip a b)) ≡ min (length a) (length b) = length-enumerate_from 0 (zip a b) ∙ length-zip a b in
+      let p : k < length a = omega (arith, n, h) in
+      let r : k < length b = omega (arith, n, h) in
+      let both : k < length (zip a b) = omega (arith, length-zip a b, p, r) in
+      let here : ◌≡◌ {A = ℕ × (ℕ × ℕ)} _ (0 + k, (get_or a k 0, get_or b k 0)) =
+      q ∙ get_or_default (enumerate_from 0 (zip a b)) k d (0, (0, 0)) h ∙ get_or-enumerate_from 0 (zip a b) k (0, (0, 0)) both ∙ ap {B = ℕ × (ℕ × ℕ)} (λ (z : ℕ × ℕ). (0 + k, z)) (get_or-zip a b k (0, 0) p r) in
+      record { index = ap (λ (z : ℕ × (ℕ × ℕ)). z.0) here ∙ (omega arith); in_first = ap (λ (z : ℕ × (ℕ × ℕ)). z.1.0) here; in_second = ap (λ (z : ℕ × (ℕ × ℕ)). z.1.1) here }
 
 -- the differences: none at first, one step more
 module _ (a b : List ℕ) where
@@ -49,9 +70,16 @@ module _ (a b : List ℕ) where
   unfolding differs_text
   differs_none v = wrote_nothing v
 
-  pub differs_more : {v m w : Writer} (i : ℕ) → Wrote v (differs_text a b i) m → Wrote m (step_text a b i) w → Wrote v (differs_text a b (i + 1)) w
+  differs_more : {v m w : Writer} (i : ℕ) → Wrote v (differs_text a b i) m → Wrote m (step_text a b i) w → Wrote v (differs_text a b (i + 1)) w
   unfolding differs_text
   differs_more i h k = rw (add-one i) (wrote_then h k)
+
+  -- by the pair at the index: the same step twice, or two that differ
+  pub differs_same : {v m : Writer} {k i x y : ℕ} → PairAt a b k i x y → x ≡ y → Wrote v (differs_text a b k) m → Wrote v (differs_text a b (k + 1)) m
+  differs_same {k = k} p e h = differs_more k h (put_same a b k p.in_first p.in_second e)
+
+  pub differs_other : {v m w : Writer} {k i x y : ℕ} → PairAt a b k i x y → (x ≡ y → ⊥) → Wrote v (differs_text a b k) m → Wrote m (differ_text i x y) w → Wrote v (differs_text a b (k + 1)) w
+  differs_other {k = k} {x = x} {y = y} p e h d = differs_more k h (put_other a b k p.in_first p.in_second e (told (ap (λ n. differ_text n x y) p.index) d))
 
 -- the extra steps: none at first, one more
 module _ (name : List ℕ) (from : ℕ) (rest : List ℕ) where
@@ -68,6 +96,10 @@ module _ (a b : List ℕ) where
   pub common_is : min (length a) (length b) ≡ common_of a b
   unfolding common_of whether
   common_is = ⊎_elim (λ h. rw h (omega (arith, ltb-true (length a) (length b) h))) (λ h. rw h (omega (arith, ltb-false (length a) (length b) h))) (true_or_false (ltb (length a) (length b)))
+
+  -- as many turns as both lists go
+  pub turns_are : {n : ℕ} → n ≡ length (enumerate_from 0 (zip a b)) → n ≡ common_of a b
+  turns_are e = e ∙ length-enumerate_from 0 (zip a b) ∙ length-zip a b ∙ common_is
 
   pub rest_second : length a < length b → take (length b - length a) (drop (length a) b) ≡ rest_of a b
   unfolding rest_of whether

@@ -4,11 +4,10 @@
 ghost use Rattle.std.specs.Prelude.{◌≡◌, ◌+◌, ◌<◌, ◌^◌, length};
 ghost use Rattle.answers.specs.Text.{Put};
 ghost use Rattle.answers.specs.Writer.{Wrote};
-ghost use Rattle.revision.specs.Revision.{pair_text, differ_text, extra_text, step_text, differs_text, extras_text, common_of, rest_of, name_of, compared_text, second_text, revisions_text};
+ghost use Rattle.revision.specs.Revision.{pair_text, differ_text, extra_text, differs_text, extras_text, common_of, rest_of, name_of, compared_text, second_text, revisions_text};
 
 use answers::{Writer, given};
 use input::Refusal;
-use operand::step_at;
 use reader::Parsed;
 
 // Two numbers at the end of a line.
@@ -37,24 +36,14 @@ fn put_extra(writer: &mut Writer, name: &[u8], i: usize, x: u32)
     put_pair(writer, i as u64, u64::from(x));
 }
 
-// What the step at an index prints: nothing where both are the same.
-#[tactic(auto, using(crate::proofs::Laws::put_other, crate::proofs::Laws::put_same))]
-fn put_step(writer: &mut Writer, first: &[u32], second: &[u32], i: usize)
-    ensures { Wrote writer.old (step_text first.now second.now i) writer.new }
+// The differences as far as both lists go: nothing where both steps are the same.
+fn put_differs(writer: &mut Writer, first: &[u32], second: &[u32])
+    ensures { Wrote writer.old (differs_text first.now second.now (common_of first.now second.now)) writer.new }
 {
-    let x = step_at(first, i);
-    let y = step_at(second, i);
-    if x != y {
-        put_differ(writer, i, x, y);
-    }
-}
-
-// The differences of the first `n` steps.
-fn put_differs(writer: &mut Writer, first: &[u32], second: &[u32], n: usize)
-    ensures { Wrote writer.old (differs_text first.now second.now n) writer.new }
-{
-    for i in 0..n {
-        put_step(writer, first, second, i);
+    for (i, (&x, &y)) in first.iter().zip(second).enumerate() {
+        if x != y {
+            put_differ(writer, i, x, y);
+        }
     }
 }
 
@@ -109,7 +98,7 @@ fn write_compared(writer: &mut Writer, first: &[u32], second: &[u32])
     if same {
         writer.word(b"equal\n");
     } else {
-        put_differs(writer, first, second, common(first, second));
+        put_differs(writer, first, second);
         put_rest(writer, first, second);
     }
 }

@@ -49,7 +49,7 @@ fn read(consumed: usize, steps: usize) -> Result<Parsed, Refusal> {
 }
 
 fn refused(number: u8, place: usize) -> Result<Parsed, Refusal> {
-    Err(Refusal { number, place })
+    Err(Refusal::new(number, place))
 }
 
 // Of answers: only the steps given count; a refusal of the first list stands before one of the second.

@@ -1,4 +1,4 @@
--- The laws of the answers, for `search`: each follows a rule along one case of an answer that the code holds.
+-- The laws of the answers: each follows a rule along one case of an answer.
 -- Assumes nothing.
 use Rattle.std.proofs.Common.{Result, Ok, Err}
 use mathlib.Core.Path.{◌≡◌, sym, ap, ◌∙◌}
@@ -21,10 +21,6 @@ module _ {A : Type 0} {x v : Result ℕ Broken} (f g : ℕ → A) {out : A} wher
   pub head_length_lem : {n : ℕ} → x ≡ v → x ≡ Ok n → out ≡ f n → out ≡ on_head v f g
   unfolding on_head
   head_length_lem p q h = h ∙ ap (λ z. on_head z f g) (sym q ∙ p)
-
-  pub head_broken : {b : Broken} → x ≡ v → x ≡ Err b → out ≡ g b.0 → out ≡ on_head v f g
-  unfolding on_head
-  head_broken p q h = h ∙ ap (λ z. on_head z f g) (sym q ∙ p)
 
 module _ {A : Type 0} {x v : Result Span Broken} (f : Span → A) (g : ℕ → A) {out : A} where
   pub section_payload : {s : Span} → x ≡ v → x ≡ Ok s → out ≡ f s → out ≡ on_section v f g

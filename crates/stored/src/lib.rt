@@ -7,7 +7,7 @@ ghost use Rattle.stored.specs.Stored.{length_of, head_of, section_of, first_of, 
 
 // The tag of a section. All tags stand here and nowhere else.
 // It is no enum: `section_at` reads sections of every tag, as those of the cases of `read_tests`, with b'r' and b'b'.
-#[derive(Clone, Copy)]
+#[derive(Clone, Copy, Debug, PartialEq, Eq)]
 pub struct Tag(pub u8);
 
 impl Tag {
@@ -30,14 +30,15 @@ impl Section {
 }
 
 // Where a part of the bytes starts, and how long it is: no slice, since `decode` and the others promise the places (`stored_of`).
-#[derive(Clone, Copy)]
+#[derive(Clone, Copy, Debug, PartialEq, Eq)]
 pub struct Span {
     pub at: usize,
     pub len: usize,
 }
 
-// Where the parts of a whole form stand: both payloads, and the place after the last byte.
-#[derive(Clone, Copy)]
+// Where the parts of a whole form stand: both payloads, and the place after the last byte. What takes a form takes the bytes beside it, since
+// the form holds places.
+#[derive(Clone, Copy, Debug, PartialEq, Eq)]
 pub struct Form {
     pub kinds: Span,
     pub joints: Span,
