@@ -104,6 +104,80 @@ LISTS = (
     ('(1', 2, node('PAREN_EXPR', tok('L_PAREN'), ONE, error(5))),
     ('1 as 1', 2, node('CAST_EXPR', ONE, tok('AS_KW'), error(4))),
     ('a.', 2, node('FIELD_EXPR', NAME, tok('DOT'), error(3))),
+    ('(+,', 2, node('PAREN_EXPR', tok('L_PAREN'), skipped('PLUS'), error(5))),
+    ('a...=b', 6, binary(
+        node('RANGE_EXPR', NAME, tok('DOT2', 2), skipped('DOT')), 'EQ', NAME)),
+    ('1 != 2', 4, binary(ONE, 'NEQ', ONE, 2)),
+    ('a == b && c', 7, binary(
+        binary(NAME, 'EQ2', NAME, 2), 'AMP2', NAME, 2)),
+)
+
+
+# Each of the 24 glued tokens where an operator may stand, `a -= b`, where a
+# prefix may, `-= a`, and at the end, `a -=`.
+
+# "longest glued form first"; the kind, its spelling and its width
+OPERATORS = (
+    ('MINUSEQ', '-=', 2), ('NEQ', '!=', 2), ('STAREQ', '*=', 2),
+    ('SLASHEQ', '/=', 2), ('AMP2', '&&', 2), ('AMPEQ', '&=', 2),
+    ('PERCENTEQ', '%=', 2), ('CARETEQ', '^=', 2), ('PLUSEQ', '+=', 2),
+    ('SHL', '<<', 2), ('LTEQ', '<=', 2), ('EQ2', '==', 2), ('GTEQ', '>=', 2),
+    ('SHR', '>>', 2), ('PIPEEQ', '|=', 2), ('PIPE2', '||', 2),
+    ('SHLEQ', '<<=', 3), ('SHREQ', '>>=', 3),
+)
+
+GLUED_OPERATORS = tuple(
+    case for kind, spelling, width in OPERATORS for case in (
+        (f'a {spelling} b', 2 + width, binary(NAME, kind, NAME, width)),
+        (f'a {spelling}', 1 + width, binary(NAME, kind, MISSING, width)),
+    )
+)
+
+GLUED_RANGES = tuple(
+    case for kind, spelling, width in (('DOT2', '..', 2), ('DOT2EQ', '..=', 3))
+    for case in (
+        (f'a {spelling} b', 2 + width,
+         node('RANGE_EXPR', NAME, tok(kind, width), NAME)),
+        (f'{spelling} a', 1 + width,
+         node('RANGE_EXPR', tok(kind, width), NAME)),
+        (f'a {spelling}', 1 + width,
+         node('RANGE_EXPR', NAME, tok(kind, width))),
+    )
+)
+
+GLUED = GLUED_OPERATORS + GLUED_RANGES + (
+    # "`=>` is no operator"
+    ('a => b', 1, NAME),
+    ('a =>', 1, NAME),
+    # "`->` reads as `-`"
+    ('a -> b', 3, binary(NAME, 'MINUS', skipped('R_ANGLE'))),
+    ('a ->', 3, binary(NAME, 'MINUS', skipped('R_ANGLE'))),
+    # "`...` reads as `..`": by `.` and IDENT there is no right operand, and
+    # "a lone `.` as atom" is an error
+    ('a ... b', 3, node('RANGE_EXPR', NAME, tok('DOT2', 2))),
+    ('a ...', 4, node('RANGE_EXPR', NAME, tok('DOT2', 2), skipped('DOT'))),
+    ('... a', 2, node('RANGE_EXPR', tok('DOT2', 2))),
+    ('a :: b', 4, node('PATH_EXPR', node(
+        'PATH', NAME_PATH, tok('COLON2', 2),
+        node('PATH_SEGMENT', NAME_REF)))),
+    # "`&` .. `*`, `!`, `-` take one raw token"
+    ('-= a', 2, node('PREFIX_EXPR', tok('MINUS'), skipped('EQ'))),
+    ('-> a', 2, node('PREFIX_EXPR', tok('MINUS'), skipped('R_ANGLE'))),
+    ('!= a', 2, node('PREFIX_EXPR', tok('BANG'), skipped('EQ'))),
+    ('*= a', 2, node('PREFIX_EXPR', tok('STAR'), skipped('EQ'))),
+    ('&& a', 3, node('REF_EXPR', tok('AMP'),
+                     node('REF_EXPR', tok('AMP'), NAME))),
+    ('&= a', 2, node('REF_EXPR', tok('AMP'), skipped('EQ'))),
+    # no first tokens
+    ('/= a', 1, skipped('SLASH')),
+    ('%= a', 1, skipped('PERCENT')),
+    ('^= a', 1, skipped('CARET')),
+    ('+= a', 1, skipped('PLUS')),
+    ('== a', 1, skipped('EQ')),
+    ('=> a', 1, skipped('EQ')),
+    ('>= a', 1, skipped('R_ANGLE')),
+    ('>> a', 1, skipped('R_ANGLE')),
+    ('>>= a', 1, skipped('R_ANGLE')),
 )
 
 # text, refusal, place
@@ -130,6 +204,18 @@ REFUSED = (
     ('1 as *T', 7, 2),
     ('1 as <T', 7, 2),
     ('1 as ::T', 7, 2),
+    # of the 24 glued tokens: `::` and those that begin with `<` or `|`
+    ('a ::', 7, 1),
+    (':: a', 7, 0),
+    ('<< a', 7, 0),
+    ('<= a', 7, 0),
+    ('<<= a', 7, 0),
+    ('|| a', 7, 0),
+    ('|= a', 7, 0),
+    # "(no reading is opened, so never 6)"
+    ('(' * 128 + ')', 7, 128),
+    ('(' * 128 + '1', 6, 128),
+    ('-' * 127 + 'f(1)', 6, 129),
 )
 
 # ----------------------------------------------------------- stored forms
@@ -233,9 +319,19 @@ def cases():
     """Yields a letter, the bytes and the answer."""
     for text, consumed, steps in LISTS:
         yield 'r', of_text(text), answer(consumed, steps)
-    minus = '-' * 127
+    for text, consumed, steps in GLUED:
+        yield 'r', of_text(text), answer(consumed, steps)
+    minus, paren = '-' * 127, '(' * 127
     yield 'r', of_text(minus + '1'), answer(128, (
         [enter('PREFIX_EXPR'), tok('MINUS')] * 127 + ONE + [LEAVE] * 127))
+    yield 'r', of_text(paren + '1' + ')' * 127), answer(255, (
+        [enter('PAREN_EXPR'), tok('L_PAREN')] * 127 + ONE
+        + [tok('R_PAREN'), LEAVE] * 127))
+    # the 128th reading is open, and a `,` opens none
+    yield 'r', of_text(minus + 'f(,)'), answer(131, (
+        [enter('PREFIX_EXPR'), tok('MINUS')] * 127
+        + node('CALL_EXPR', NAME, arguments(
+            skipped('COMMA'), tok('R_PAREN'))) + [LEAVE] * 127))
     for text, number, place in REFUSED:
         yield 'r', of_text(text), refusal(number, place)
     for data in damaged():
