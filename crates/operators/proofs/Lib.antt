@@ -1,2 +1,3 @@
 pub mod Strengths
 pub mod Stands
+pub mod Longest

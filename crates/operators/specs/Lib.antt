@@ -1,2 +1,3 @@
 pub mod TokenSet
 pub mod Strength
+pub mod Longest
