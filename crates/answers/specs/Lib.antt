@@ -2,3 +2,4 @@ pub mod Text
 pub mod Writer
 pub mod Answers
 pub mod Worked
+pub mod Numbers
