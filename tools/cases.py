@@ -315,12 +315,8 @@ def damaged():
         yield BANG_ONE + bytes([byte])
 
 
-def cases():
-    """Yields a letter, the bytes and the answer."""
-    for text, consumed, steps in LISTS:
-        yield 'r', of_text(text), answer(consumed, steps)
-    for text, consumed, steps in GLUED:
-        yield 'r', of_text(text), answer(consumed, steps)
+def deep():
+    """128 readings open, one in the other."""
     minus, paren = '-' * 127, '(' * 127
     yield 'r', of_text(minus + '1'), answer(128, (
         [enter('PREFIX_EXPR'), tok('MINUS')] * 127 + ONE + [LEAVE] * 127))
@@ -332,6 +328,15 @@ def cases():
         [enter('PREFIX_EXPR'), tok('MINUS')] * 127
         + node('CALL_EXPR', NAME, arguments(
             skipped('COMMA'), tok('R_PAREN'))) + [LEAVE] * 127))
+
+
+def cases():
+    """Yields a letter, the bytes and the answer."""
+    for text, consumed, steps in LISTS:
+        yield 'r', of_text(text), answer(consumed, steps)
+    for text, consumed, steps in GLUED:
+        yield 'r', of_text(text), answer(consumed, steps)
+    yield from deep()
     for text, number, place in REFUSED:
         yield 'r', of_text(text), refusal(number, place)
     for data in damaged():

@@ -1,5 +1,5 @@
 -- What a rule takes is at hand: a raw kind that was looked at is present, and so is the operator that was found. By the definition of presence, one case for each operator. Assumes nothing.
-use mathlib.Core.Path.{◌≡◌, refl, ap, ◌∙◌}
+use mathlib.Core.Path.{◌≡◌, refl, sym, ap, subst, ◌∙◌}
 use mathlib.Core.List.{List, [], ◌∷◌}
 use mathlib.Core.Bool.{Bool, true, false}
 use Prim.Native.Nat.{ℕ, ◌+◌, ◌≤◌, ◌<◌}
@@ -7,15 +7,18 @@ use native.Mathlib.Omega.{arith}
 use lib.ListN.{length, get_or-eq_default}
 use lib.Dec.{ltb, leb, eqb}
 use borrow.Author.Tests.{ltb-true, ltb-false, leb-true, leb-false, le-leb, eqb-true}
-use Rattle.base.specs.Base.{bound}
+use Rattle.base.specs.Base.{whether}
 use Rattle.base.proofs.Cases.{whether_by}
-use Rattle.input.specs.SyntaxKind.{IDENT, INT_NUMBER, QUESTION, AS_KW, AMP, PIPE, PLUS, MINUS, STAR, SLASH, PERCENT, CARET, BANG, EQ, L_ANGLE, R_ANGLE, MINUSEQ, NEQ, DOT2, STAREQ, SLASHEQ, AMP2, AMPEQ, PERCENTEQ, CARETEQ, PLUSEQ, SHL, LTEQ, EQ2, GTEQ, SHR, PIPEEQ, PIPE2, DOT2EQ, SHLEQ, SHREQ}
+use Rattle.input.specs.SyntaxKind.{IDENT, INT_NUMBER, QUESTION, MINUS, STAR, BANG, MINUSEQ, SHREQ}
 use Rattle.input.specs.Input.{Tokens, kind_at, stands, is_glued, is_raw, is_kind, parts_of, width_of, follow, present}
 use Rattle.operators.specs.declared.Side.{Side}
 use Rattle.operators.specs.declared.Side.TheVariants.{Left, Right}
 use Rattle.operators.specs.declared.Op.{Op}
 use Rattle.operators.specs.TokenSet.{among, first_tokens, is_first, is_prefix, is_field_name}
-use Rattle.operators.specs.Strength.{left_op, assign_op, not_an_op, or_op, pipe_op, r_angle_op, l_angle_op, amp_op, eq_op, dot_op, bang_op, arith_op, op_of, current_op, on_side, right_of}
+use Rattle.operators.specs.Strength.{current_op, on_side, right_of}
+use Rattle.input.proofs.Laws.{both_true}
+use Rattle.operators.specs.Longest.{operators}
+use Rattle.operators.proofs.Longest.{the_one_at_hand}
 use Rattle.facts.proofs.Does.{clash}
 
 -- raw kinds and glued ones may be taken, and a raw kind is its own part
@@ -42,6 +45,18 @@ glued_kind kind l h =
     whether_by (λ b. b ≡ true) _ _ _ (λ _. refl)
     (λ _. whether_by (λ b. b ≡ true) (leb MINUSEQ kind) (λ _. leb kind SHREQ) (λ _. false) (λ _. le-leb kind SHREQ h) (λ p. absurd (omega (arith, leb-false MINUSEQ kind p))))
 
+-- what holds of each of a list holds of one of them
+holds : (ℕ → Bool) → List ℕ → Bool
+holds f [] = true
+holds f (x ∷ l) = whether (f x) (λ _. holds f l) (λ _. false)
+
+among_holds : (f : ℕ → Bool) (kind : ℕ) (l : List ℕ) → holds f l ≡ true → among kind l ≡ true → f kind ≡ true
+unfolding holds
+among_holds f kind [] h q = absurd (clash q refl)
+among_holds f kind (x ∷ l) h q =
+    let b = both_true (f x) (λ _. holds f l) h in
+    whether_by (λ b. b ≡ true → f kind ≡ true) (eqb kind x) _ _ (λ p _. subst (λ (k : ℕ). f k ≡ true) (sym (eqb-true kind x p)) b.0) (λ _ r. among_holds f kind l b.1 r) q
+
 -- an operator with a strength is present, under a kind that may be taken
 pub record Standing (ts : Tokens) (at : ℕ) (op : Op) : Type 0 where
   pub stands_so : 1 ≤ op.strength → (is_kind op.kind ≡ true) × (present ts at op.kind ≡ true)
@@ -67,33 +82,10 @@ module _ (ts : Tokens) (at : ℕ) where
   abbrev Stands : Op → Type 0
   Stands op = Standing ts at op
 
-  glued_op : (op : Op) (other : Unit {0} → Op) → (40 ≤ op.kind) × (op.kind ≤ 63) → Stands (other tt) → Stands (or_op ts at op other)
-  unfolding or_op
-  glued_op op other i h = whether_by Stands (present ts at op.kind) (λ _. op) other (λ q. record { stands_so = λ _. (glued_kind op.kind i.0 i.1, q) }) (λ _. h)
-
-  raw_op : (op : Op) → (1 ≤ op.kind) × (op.kind ≤ 29) → eqb (kind_at ts at) op.kind ≡ true → Stands op
-  raw_op op i q = record { stands_so = λ _. (raw_kind op.kind i.0 i.1, raw_present op.kind i.1 q i.0) }
-
-  none_op : Stands not_an_op
-  none_op = record { stands_so = λ l. absurd (omega arith) }
-
+  -- what is at hand is one of 01's operators, and present
   pub op_stands : Stands (current_op ts at)
-  unfolding current_op op_of bound pipe_op r_angle_op l_angle_op amp_op eq_op dot_op bang_op arith_op
-  op_stands =
-      whether_by Stands _ _ _ (λ q. glued_op (left_op PIPE2 3) _ (omega arith) (glued_op (assign_op PIPEEQ) _ (omega arith) (raw_op (left_op PIPE 6) (omega arith) q))) λ _.
-      whether_by Stands _ _ _ (λ q. glued_op (assign_op SHREQ) _ (omega arith) (glued_op (left_op SHR 9) _ (omega arith) (glued_op (left_op GTEQ 5) _ (omega arith) (raw_op (left_op R_ANGLE 5) (omega arith) q)))) λ _.
-      whether_by Stands _ _ _ (λ q. glued_op (left_op EQ2 5) _ (omega arith) (whether_by Stands _ _ _ (λ _. none_op) (λ _. raw_op (assign_op EQ) (omega arith) q))) λ _.
-      whether_by Stands _ _ _ (λ q. glued_op (assign_op SHLEQ) _ (omega arith) (glued_op (left_op SHL 9) _ (omega arith) (glued_op (left_op LTEQ 5) _ (omega arith) (raw_op (left_op L_ANGLE 5) (omega arith) q)))) λ _.
-      whether_by Stands _ _ _ (λ q. glued_op (assign_op PLUSEQ) _ (omega arith) (raw_op (left_op PLUS 10) (omega arith) q)) λ _.
-      whether_by Stands _ _ _ (λ q. glued_op (assign_op CARETEQ) _ (omega arith) (raw_op (left_op CARET 7) (omega arith) q)) λ _.
-      whether_by Stands _ _ _ (λ q. glued_op (assign_op PERCENTEQ) _ (omega arith) (raw_op (left_op PERCENT 11) (omega arith) q)) λ _.
-      whether_by Stands _ _ _ (λ q. glued_op (left_op AMP2 4) _ (omega arith) (glued_op (assign_op AMPEQ) _ (omega arith) (raw_op (left_op AMP 8) (omega arith) q))) λ _.
-      whether_by Stands _ _ _ (λ q. glued_op (assign_op SLASHEQ) _ (omega arith) (raw_op (left_op SLASH 11) (omega arith) q)) λ _.
-      whether_by Stands _ _ _ (λ q. glued_op (assign_op STAREQ) _ (omega arith) (raw_op (left_op STAR 11) (omega arith) q)) λ _.
-      whether_by Stands _ _ _ (λ q. glued_op (left_op DOT2EQ 2) _ (omega arith) (glued_op (left_op DOT2 2) _ (omega arith) none_op)) λ _.
-      whether_by Stands _ _ _ (λ q. glued_op (left_op NEQ 5) _ (omega arith) none_op) λ _.
-      whether_by Stands _ _ _ (λ q. glued_op (assign_op MINUSEQ) _ (omega arith) (raw_op (left_op MINUS 10) (omega arith) q)) λ _.
-      whether_by Stands _ _ _ (λ q. raw_op (left_op AS_KW 12) (omega arith) q) (λ _. none_op)
+  unfolding holds is_kind is_raw is_glued whether
+  op_stands = record { stands_so = λ l. let h : _ = the_one_at_hand ts at l in (among_holds is_kind (current_op ts at).kind operators refl h.listed, h.is_present) }
 
 -- the right operand is read at a strength, too
 right_go : (x : Side) (n : ℕ) → 1 ≤ n → 1 ≤ on_side x (n + 1) n

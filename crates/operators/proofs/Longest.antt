@@ -174,6 +174,98 @@ module _ (ts : Tokens) (at : ℕ) where
   unfolding op_of whether pipe_op r_angle_op l_angle_op amp_op eq_op dot_op bang_op arith_op is_glued glued_table row_of row_parts parts_of width_of
   as_kw_wide h n = found AS_KW AS_KW ([]) refl h (fits AS_KW (left_op AS_KW 12) refl refl)
 
+  abbrev Known : Op → Type 0
+  Known op = AtHandIfAny ts at op
+
+  or_known : (op : Op) (other : Unit {0} → Op) → among op.kind operators ≡ true → Known (other tt) → Known (or_op ts at op other)
+  unfolding or_op
+  or_known op other l h = whether_by Known (present ts at op.kind) (λ _. op) other (λ q. record { at_hand = λ _. record { listed = l; is_present = q } }) (λ _. h)
+
+  -- a raw kind that is at hand is present
+  raw_known : (op : Op) → among op.kind operators ≡ true → parts_of op.kind ≡ op.kind ∷ [] → 1 ≤ op.kind → eqb (kind_at ts at) op.kind ≡ true → Known op
+  unfolding present follow
+  raw_known op l e k q =
+      let z : kind_at ts at ≡ op.kind = eqb-true _ _ q in
+      let p : present ts at op.kind ≡ true = subst (λ (ps : List ℕ). follow ts at ps ≡ true) (sym e) (says_stands ts at op.kind (record { inside = kind_inside ts at (λ n. omega arith); same = z })) in
+      record { at_hand = λ _. record { listed = l; is_present = p } }
+
+  none_known : Known not_an_op
+  none_known = record { at_hand = λ l. absurd (omega arith) }
+
+  pipe_known : eqb (kind_at ts at) PIPE ≡ true → Known (pipe_op ts at)
+  unfolding pipe_op whether is_glued parts_of
+  pipe_known q = or_known (left_op PIPE2 3) _ refl (or_known (assign_op PIPEEQ) _ refl (raw_known (left_op PIPE 6) refl refl (leb-true 1 _ refl) q))
+
+  r_angle_known : eqb (kind_at ts at) R_ANGLE ≡ true → Known (r_angle_op ts at)
+  unfolding r_angle_op whether is_glued parts_of
+  r_angle_known q = or_known (assign_op SHREQ) _ refl (or_known (left_op SHR 9) _ refl (or_known (left_op GTEQ 5) _ refl (raw_known (left_op R_ANGLE 5) refl refl (leb-true 1 _ refl) q)))
+
+  eq_known : eqb (kind_at ts at) EQ ≡ true → Known (eq_op ts at)
+  unfolding eq_op whether is_glued parts_of
+  eq_known q = or_known (left_op EQ2 5) _ refl (whether_by Known (present ts at FAT_ARROW) (λ _. not_an_op) (λ _. assign_op EQ) (λ _. none_known) (λ _. raw_known (assign_op EQ) refl refl (leb-true 1 _ refl) q))
+
+  l_angle_known : eqb (kind_at ts at) L_ANGLE ≡ true → Known (l_angle_op ts at)
+  unfolding l_angle_op whether is_glued parts_of
+  l_angle_known q = or_known (assign_op SHLEQ) _ refl (or_known (left_op SHL 9) _ refl (or_known (left_op LTEQ 5) _ refl (raw_known (left_op L_ANGLE 5) refl refl (leb-true 1 _ refl) q)))
+
+  plus_known : eqb (kind_at ts at) PLUS ≡ true → Known (arith_op ts at PLUSEQ PLUS 10)
+  unfolding arith_op whether is_glued parts_of
+  plus_known q = or_known (assign_op PLUSEQ) _ refl (raw_known (left_op PLUS 10) refl refl (leb-true 1 _ refl) q)
+
+  caret_known : eqb (kind_at ts at) CARET ≡ true → Known (arith_op ts at CARETEQ CARET 7)
+  unfolding arith_op whether is_glued parts_of
+  caret_known q = or_known (assign_op CARETEQ) _ refl (raw_known (left_op CARET 7) refl refl (leb-true 1 _ refl) q)
+
+  percent_known : eqb (kind_at ts at) PERCENT ≡ true → Known (arith_op ts at PERCENTEQ PERCENT 11)
+  unfolding arith_op whether is_glued parts_of
+  percent_known q = or_known (assign_op PERCENTEQ) _ refl (raw_known (left_op PERCENT 11) refl refl (leb-true 1 _ refl) q)
+
+  amp_known : eqb (kind_at ts at) AMP ≡ true → Known (amp_op ts at)
+  unfolding amp_op whether is_glued parts_of
+  amp_known q = or_known (left_op AMP2 4) _ refl (or_known (assign_op AMPEQ) _ refl (raw_known (left_op AMP 8) refl refl (leb-true 1 _ refl) q))
+
+  slash_known : eqb (kind_at ts at) SLASH ≡ true → Known (arith_op ts at SLASHEQ SLASH 11)
+  unfolding arith_op whether is_glued parts_of
+  slash_known q = or_known (assign_op SLASHEQ) _ refl (raw_known (left_op SLASH 11) refl refl (leb-true 1 _ refl) q)
+
+  star_known : eqb (kind_at ts at) STAR ≡ true → Known (arith_op ts at STAREQ STAR 11)
+  unfolding arith_op whether is_glued parts_of
+  star_known q = or_known (assign_op STAREQ) _ refl (raw_known (left_op STAR 11) refl refl (leb-true 1 _ refl) q)
+
+  dot_known : eqb (kind_at ts at) DOT ≡ true → Known (dot_op ts at)
+  unfolding dot_op whether is_glued parts_of
+  dot_known _ = or_known (left_op DOT2EQ 2) _ refl (or_known (left_op DOT2 2) _ refl none_known)
+
+  bang_known : eqb (kind_at ts at) BANG ≡ true → Known (bang_op ts at)
+  unfolding bang_op whether is_glued parts_of
+  bang_known _ = or_known (left_op NEQ 5) _ refl none_known
+
+  minus_known : eqb (kind_at ts at) MINUS ≡ true → Known (arith_op ts at MINUSEQ MINUS 10)
+  unfolding arith_op whether is_glued parts_of
+  minus_known q = or_known (assign_op MINUSEQ) _ refl (raw_known (left_op MINUS 10) refl refl (leb-true 1 _ refl) q)
+
+  as_known : eqb (kind_at ts at) AS_KW ≡ true → Known (left_op AS_KW 12)
+  unfolding arith_op whether is_glued parts_of
+  as_known q = raw_known (left_op AS_KW 12) refl refl (leb-true 1 _ refl) q
+
+  op_known : Known (current_op ts at)
+  unfolding current_op op_of bound
+  op_known =
+      whether_by Known _ _ _ pipe_known λ _.
+      whether_by Known _ _ _ r_angle_known λ _.
+      whether_by Known _ _ _ eq_known λ _.
+      whether_by Known _ _ _ l_angle_known λ _.
+      whether_by Known _ _ _ plus_known λ _.
+      whether_by Known _ _ _ caret_known λ _.
+      whether_by Known _ _ _ percent_known λ _.
+      whether_by Known _ _ _ amp_known λ _.
+      whether_by Known _ _ _ slash_known λ _.
+      whether_by Known _ _ _ star_known λ _.
+      whether_by Known _ _ _ dot_known λ _.
+      whether_by Known _ _ _ bang_known λ _.
+      whether_by Known _ _ _ minus_known λ _.
+      whether_by Known _ _ _ as_known (λ _. none_known)
+
   -- each of a list
   abbrev Each : List ℕ → Type 0
   Each [] = Unit {0}
@@ -281,98 +373,6 @@ module _ (ts : Tokens) (at : ℕ) where
       ),
     ),
   )
-
-  abbrev Known : Op → Type 0
-  Known op = AtHandIfAny ts at op
-
-  or_known : (op : Op) (other : Unit {0} → Op) → among op.kind operators ≡ true → Known (other tt) → Known (or_op ts at op other)
-  unfolding or_op
-  or_known op other l h = whether_by Known (present ts at op.kind) (λ _. op) other (λ q. record { at_hand = λ _. record { listed = l; is_present = q } }) (λ _. h)
-
-  -- a raw kind that is at hand is present
-  raw_known : (op : Op) → among op.kind operators ≡ true → parts_of op.kind ≡ op.kind ∷ [] → 1 ≤ op.kind → eqb (kind_at ts at) op.kind ≡ true → Known op
-  unfolding present follow
-  raw_known op l e k q =
-      let z : kind_at ts at ≡ op.kind = eqb-true _ _ q in
-      let p : present ts at op.kind ≡ true = subst (λ (ps : List ℕ). follow ts at ps ≡ true) (sym e) (says_stands ts at op.kind (record { inside = kind_inside ts at (λ n. omega arith); same = z })) in
-      record { at_hand = λ _. record { listed = l; is_present = p } }
-
-  none_known : Known not_an_op
-  none_known = record { at_hand = λ l. absurd (omega arith) }
-
-  pipe_known : eqb (kind_at ts at) PIPE ≡ true → Known (pipe_op ts at)
-  unfolding pipe_op whether is_glued parts_of
-  pipe_known q = or_known (left_op PIPE2 3) _ refl (or_known (assign_op PIPEEQ) _ refl (raw_known (left_op PIPE 6) refl refl (leb-true 1 _ refl) q))
-
-  r_angle_known : eqb (kind_at ts at) R_ANGLE ≡ true → Known (r_angle_op ts at)
-  unfolding r_angle_op whether is_glued parts_of
-  r_angle_known q = or_known (assign_op SHREQ) _ refl (or_known (left_op SHR 9) _ refl (or_known (left_op GTEQ 5) _ refl (raw_known (left_op R_ANGLE 5) refl refl (leb-true 1 _ refl) q)))
-
-  eq_known : eqb (kind_at ts at) EQ ≡ true → Known (eq_op ts at)
-  unfolding eq_op whether is_glued parts_of
-  eq_known q = or_known (left_op EQ2 5) _ refl (whether_by Known (present ts at FAT_ARROW) (λ _. not_an_op) (λ _. assign_op EQ) (λ _. none_known) (λ _. raw_known (assign_op EQ) refl refl (leb-true 1 _ refl) q))
-
-  l_angle_known : eqb (kind_at ts at) L_ANGLE ≡ true → Known (l_angle_op ts at)
-  unfolding l_angle_op whether is_glued parts_of
-  l_angle_known q = or_known (assign_op SHLEQ) _ refl (or_known (left_op SHL 9) _ refl (or_known (left_op LTEQ 5) _ refl (raw_known (left_op L_ANGLE 5) refl refl (leb-true 1 _ refl) q)))
-
-  plus_known : eqb (kind_at ts at) PLUS ≡ true → Known (arith_op ts at PLUSEQ PLUS 10)
-  unfolding arith_op whether is_glued parts_of
-  plus_known q = or_known (assign_op PLUSEQ) _ refl (raw_known (left_op PLUS 10) refl refl (leb-true 1 _ refl) q)
-
-  caret_known : eqb (kind_at ts at) CARET ≡ true → Known (arith_op ts at CARETEQ CARET 7)
-  unfolding arith_op whether is_glued parts_of
-  caret_known q = or_known (assign_op CARETEQ) _ refl (raw_known (left_op CARET 7) refl refl (leb-true 1 _ refl) q)
-
-  percent_known : eqb (kind_at ts at) PERCENT ≡ true → Known (arith_op ts at PERCENTEQ PERCENT 11)
-  unfolding arith_op whether is_glued parts_of
-  percent_known q = or_known (assign_op PERCENTEQ) _ refl (raw_known (left_op PERCENT 11) refl refl (leb-true 1 _ refl) q)
-
-  amp_known : eqb (kind_at ts at) AMP ≡ true → Known (amp_op ts at)
-  unfolding amp_op whether is_glued parts_of
-  amp_known q = or_known (left_op AMP2 4) _ refl (or_known (assign_op AMPEQ) _ refl (raw_known (left_op AMP 8) refl refl (leb-true 1 _ refl) q))
-
-  slash_known : eqb (kind_at ts at) SLASH ≡ true → Known (arith_op ts at SLASHEQ SLASH 11)
-  unfolding arith_op whether is_glued parts_of
-  slash_known q = or_known (assign_op SLASHEQ) _ refl (raw_known (left_op SLASH 11) refl refl (leb-true 1 _ refl) q)
-
-  star_known : eqb (kind_at ts at) STAR ≡ true → Known (arith_op ts at STAREQ STAR 11)
-  unfolding arith_op whether is_glued parts_of
-  star_known q = or_known (assign_op STAREQ) _ refl (raw_known (left_op STAR 11) refl refl (leb-true 1 _ refl) q)
-
-  dot_known : eqb (kind_at ts at) DOT ≡ true → Known (dot_op ts at)
-  unfolding dot_op whether is_glued parts_of
-  dot_known _ = or_known (left_op DOT2EQ 2) _ refl (or_known (left_op DOT2 2) _ refl none_known)
-
-  bang_known : eqb (kind_at ts at) BANG ≡ true → Known (bang_op ts at)
-  unfolding bang_op whether is_glued parts_of
-  bang_known _ = or_known (left_op NEQ 5) _ refl none_known
-
-  minus_known : eqb (kind_at ts at) MINUS ≡ true → Known (arith_op ts at MINUSEQ MINUS 10)
-  unfolding arith_op whether is_glued parts_of
-  minus_known q = or_known (assign_op MINUSEQ) _ refl (raw_known (left_op MINUS 10) refl refl (leb-true 1 _ refl) q)
-
-  as_known : eqb (kind_at ts at) AS_KW ≡ true → Known (left_op AS_KW 12)
-  unfolding arith_op whether is_glued parts_of
-  as_known q = raw_known (left_op AS_KW 12) refl refl (leb-true 1 _ refl) q
-
-  op_known : Known (current_op ts at)
-  unfolding current_op op_of bound
-  op_known =
-      whether_by Known _ _ _ pipe_known λ _.
-      whether_by Known _ _ _ r_angle_known λ _.
-      whether_by Known _ _ _ eq_known λ _.
-      whether_by Known _ _ _ l_angle_known λ _.
-      whether_by Known _ _ _ plus_known λ _.
-      whether_by Known _ _ _ caret_known λ _.
-      whether_by Known _ _ _ percent_known λ _.
-      whether_by Known _ _ _ amp_known λ _.
-      whether_by Known _ _ _ slash_known λ _.
-      whether_by Known _ _ _ star_known λ _.
-      whether_by Known _ _ _ dot_known λ _.
-      whether_by Known _ _ _ bang_known λ _.
-      whether_by Known _ _ _ minus_known λ _.
-      whether_by Known _ _ _ as_known (λ _. none_known)
 
 pub the_longest : TheLongest
 the_longest ts at kind q h n = one_of ts at kind operators (all_wide ts at) q h n
