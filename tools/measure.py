@@ -2,12 +2,13 @@
 """Measures what no proof speaks of: the stack that a deep reading takes, and the work that a long one takes.
 
 usage:
-  measure.py stack     bytes of stack a level of nesting, by kind of nesting, as a run needs them
+  measure.py stack     bytes of stack that a deep reading takes, by kind of nesting, as a run needs them
   measure.py work      instructions a token, for lists of growing length (needs valgrind)
 
 Both run the program `batch`, which `rt ci` built, on an x86-64 Linux machine.
 """
 
+import ctypes
 import os
 import re
 import resource
@@ -22,14 +23,24 @@ BATCH = programs.file_of('batch')
 PAGE = 4096
 DEPTH = 128
 
+# the kernel begins the stack at a random place, up to two pages apart from
+# run to run, unless the process asks for none
+NO_RANDOM_START = 0x0040000
+
+# the bytes of the lists that `main` of `batch` holds: what is read, events,
+# steps, text
+LISTS = 65536 + 65552 * 8 + 65552 * 4 + 2097152
+
 # what is written before and behind the innermost `1`; each opens one reading
 NESTS = {
     'prefix': ('-', ''),
+    'reference': ('&', ''),
     'parenthesis': ('(', ')'),
     'index': ('a[', ']'),
     'right operand': ('a = ', ''),
     'call': ('f(', ')'),
     'method call': ('a.f(', ')'),
+    'leading range': ('.. ', ''),
 }
 
 # lists that repeat, and what stands once in front
@@ -55,8 +66,13 @@ def nested(nest, depth):
 
 def runs(data, pages):
     limit = pages * PAGE
+
+    def prepare():
+        ctypes.CDLL(None).personality(NO_RANDOM_START)
+        resource.setrlimit(resource.RLIMIT_STACK, (limit, limit))
+
     done = subprocess.run([BATCH], input=data, stdout=subprocess.PIPE, env={},
-                          preexec_fn=lambda: resource.setrlimit(resource.RLIMIT_STACK, (limit, limit)))
+                          preexec_fn=prepare)
     if done.returncode == 0 and not done.stdout.startswith(b'consumed'):
         sys.exit('measure: not read: %r' % done.stdout[:40])
     return done.returncode == 0
@@ -79,8 +95,8 @@ def stack():
     for nest in NESTS:
         shallow, deep = pages_needed(nested(nest, 1)), pages_needed(nested(nest, DEPTH))
         taken = (deep - shallow) * PAGE
-        print('%-14s %7d bytes for %d levels, %5d a level (to a page: +-%d)'
-              % (nest, taken, DEPTH, taken // (DEPTH - 1), PAGE // (DEPTH - 1)))
+        print('%-14s %7d bytes for %d levels, %5d a level (to a page: +-%d); with all but the lists %7d'
+              % (nest, taken, DEPTH, taken // (DEPTH - 1), PAGE // (DEPTH - 1), deep * PAGE - LISTS))
 
 
 def instructions(data):

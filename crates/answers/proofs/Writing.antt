@@ -1,11 +1,11 @@
 -- Laws of `Wrote`: nothing written, one text after another, and the lines of steps. Assumes nothing.
-use Rattle.std.proofs.Common.{Result, Ok, Err, ℕ, ◌+◌, ◌-◌, ◌/◌, ◌<◌, ◌≤◌, ◌≡◌, refl, ◌∙◌, List, [], ◌∷◌, ◌++◌, length, get_or, take}
+use Rattle.std.proofs.Common.{Result, Ok, Err, ℕ, ◌+◌, ◌<◌, ◌≡◌, refl, ◌∙◌, List, [], ◌++◌, length, get_or, take}
 use Rattle.input.specs.declared.Refusal.{Refusal}
 use Rattle.reader.specs.declared.Parsed.{Parsed}
-use Rattle.answers.specs.Text.{base, digit_of, digits_of, lines_of, line_of, steps_text, refusal_text, text_of}
+use Rattle.answers.specs.Text.{lines_of, line_of, steps_text, refusal_text, text_of}
 use Rattle.answers.specs.Writer.{Wrote}
 use Rattle.answers.specs.declared.Writer.{Writer}
-use Rattle.answers.proofs.Putting.{put_nothing, put_then, line_more, no_place, one_digit, more_digits}
+use Rattle.answers.proofs.Putting.{put_nothing, put_then, line_more}
 use Rattle.answers.proofs.Laws.{put_given, put_refused}
 
 pub wrote_nothing : (a : Writer) → Wrote a [] a
@@ -13,16 +13,6 @@ wrote_nothing a = record { same_list = refl; put = put_nothing _ _ }
 
 pub wrote_then : {a b c : Writer} {xs ys : List ℕ} → Wrote a xs b → Wrote b ys c → Wrote a (xs ++ ys) c
 wrote_then p q = record { same_list = q.same_list ∙ p.same_list; put = put_then p.put q.put }
-
--- the digits of a number, the last one last
-pub wrote_no_place : {a : Writer} (n most : ℕ) → most ≡ 0 → Wrote a (digits_of most n) a
-wrote_no_place n most h = record { same_list = refl; put = no_place n most h }
-
-pub wrote_one_digit : {a b : Writer} {n d : ℕ} (most : ℕ) → (most ≡ 0 → ⊥) → n < base → d ≡ digit_of n → Wrote a (d ∷ []) b → Wrote a (digits_of most n) b
-wrote_one_digit most h l e p = record { same_list = p.same_list; put = one_digit most h l e p.put }
-
-pub wrote_more_digits : {a b c : Writer} {n d : ℕ} (most : ℕ) → (most ≡ 0 → ⊥) → base ≤ n → d ≡ digit_of n → Wrote a (digits_of (most - 1) (n / base)) b → Wrote b (d ∷ []) c → Wrote a (digits_of most n) c
-wrote_more_digits most h l e p q = record { same_list = q.same_list ∙ p.same_list; put = more_digits most h l e p.put q.put }
 
 -- steps line by line
 pub wrote_line_more : {a b c : Writer} {x : ℕ} (xs : List ℕ) (i : ℕ) → i < length xs → x ≡ get_or xs i 0 → Wrote a (lines_of (take i xs)) b → Wrote b (line_of x) c → Wrote a (lines_of (take (i + 1) xs)) c

@@ -55,8 +55,59 @@ fn digit(n: u64) -> u8
     b'0' + (n % Places::BASE) as u8
 }
 
-// A lent list of bytes, and where in it the next one goes. What doesn't fit is left out.
+// Writes a byte at `at` where there is room, and answers where the next one goes. This function and those below it take the list and the place
+// by value, so that both stay in registers while a text is written.
+fn byte(out: &mut [u8], at: usize, b: u8) -> usize
+    ensures { Put out.old at (b ∷ []) result out.new }
+{
+    if at < out.len() {
+        out[at] = b;
+        return at + 1;
+    }
+    at
+}
+
+pub fn word(out: &mut [u8], at: usize, text: &[u8]) -> usize
+    ensures { Put out.old at text.now result out.new }
+{
+    let mut end = at;
+    for &b in text {
+        end = byte(out, end, b);
+    }
+    end
+}
+
+// "prints in decimal": n, of at most `most` digits.
 // Numbers are written by hand: `write!` promises its bytes only where it answers Ok, and never that it does so, while a writer here can't fail.
+fn digits(out: &mut [u8], at: usize, n: u64, most: usize) -> usize
+    ensures { Put out.old at (digits_of most n) result out.new }
+{
+    if most == 0 {
+        return at;
+    }
+    if n < Places::BASE {
+        return byte(out, at, digit(n));
+    }
+    let next = digits(out, at, n / Places::BASE, most - 1);
+    byte(out, next, digit(n))
+}
+
+#[tactic(auto, unfolding(crate::specs::Text::decimal_of))]
+pub fn decimal(out: &mut [u8], at: usize, n: u64) -> usize
+    ensures { Put out.old at (decimal_of n) result out.new }
+{
+    digits(out, at, n, Places::LIMIT)
+}
+
+#[tactic(auto, using(crate::proofs::Putting::put_then), unfolding(crate::specs::Text::line_of))]
+pub fn line(out: &mut [u8], at: usize, n: u64) -> usize
+    ensures { Put out.old at (line_of n) result out.new }
+{
+    let next = decimal(out, at, n);
+    byte(out, next, b'\n')
+}
+
+// A lent list of bytes, and where in it the next one goes. What doesn't fit is left out.
 #[derive(Drop)]
 pub struct Writer<'a> {
     pub out: &'a mut [u8],
@@ -72,50 +123,22 @@ impl<'a> Writer<'a> {
         Writer { out, end: at }
     }
 
-    // The place is tested by hand: of a write through `get_mut` a proof knows the list's length alone.
-    fn byte(&mut self, b: u8)
-        ensures { Wrote self.old (b ∷ []) self.new }
-    {
-        if self.end < self.out.len() {
-            self.out[self.end] = b;
-            self.end += 1;
-        }
-    }
-
     pub fn word(&mut self, text: &[u8])
         ensures { Wrote self.old text.now self.new }
     {
-        for &b in text {
-            self.byte(b);
-        }
+        self.end = word(self.out, self.end, text);
     }
 
-    // "prints in decimal": n, of at most `most` digits.
-    fn digits(&mut self, n: u64, most: usize)
-        ensures { Wrote self.old (digits_of most n) self.new }
-    {
-        if most == 0 {
-            return;
-        }
-        if Places::BASE <= n {
-            self.digits(n / Places::BASE, most - 1);
-        }
-        self.byte(digit(n));
-    }
-
-    #[tactic(auto, unfolding(crate::specs::Text::decimal_of))]
     pub fn decimal(&mut self, n: u64)
         ensures { Wrote self.old (decimal_of n) self.new }
     {
-        self.digits(n, Places::LIMIT);
+        self.end = decimal(self.out, self.end, n);
     }
 
-    #[tactic(auto, using(crate::proofs::Writing::wrote_then), unfolding(crate::specs::Text::line_of))]
     pub fn line(&mut self, n: u64)
         ensures { Wrote self.old (line_of n) self.new }
     {
-        self.decimal(n);
-        self.byte(b'\n');
+        self.end = line(self.out, self.end, n);
     }
 
     // A line for each step.
@@ -164,33 +187,8 @@ impl<'a> Writer<'a> {
     }
 }
 
-// This function and `decimal`, `line`, `put_refusal` and `put_answer` write over a list and a place what the writer's methods do, and answer
-// where the text ends: public calls from before there was a writer, with the promises that they had. `as` of a usize stays, since the library
-// has no `From` for it.
-pub fn word(out: &mut [u8], at: usize, text: &[u8]) -> usize
-    ensures { Put out.old at text.now result out.new }
-{
-    let mut writer = Writer::new(out, at);
-    writer.word(text);
-    writer.end
-}
-
-pub fn decimal(out: &mut [u8], at: usize, n: u64) -> usize
-    ensures { Put out.old at (decimal_of n) result out.new }
-{
-    let mut writer = Writer::new(out, at);
-    writer.decimal(n);
-    writer.end
-}
-
-pub fn line(out: &mut [u8], at: usize, n: u64) -> usize
-    ensures { Put out.old at (line_of n) result out.new }
-{
-    let mut writer = Writer::new(out, at);
-    writer.line(n);
-    writer.end
-}
-
+// This function and `put_answer` write over a list and a place what the writer's methods do, and answer where the text ends: public calls from
+// before there was a writer, with the promises that they had. `as` of a usize stays, since the library has no `From` for it.
 pub fn put_refusal(out: &mut [u8], at: usize, refusal: Refusal) -> usize
     ensures { Put out.old at (refusal_text refusal) result out.new }
 {

@@ -1,7 +1,8 @@
 // Prints the answers of stored forms that stand one after the other on standard input.
 #![tactic(auto)]
 
-ghost use Rattle.std.specs.Prelude.{◌≤◌, length, IfOk};
+ghost use Rattle.std.specs.Prelude.{◌≡◌, ◌-◌, ◌≤◌, length, take, drop, IfOk};
+ghost use Rattle.event.specs.Event.{event_limit};
 
 use answers::{Text, given};
 use event::State;
@@ -30,12 +31,15 @@ pub struct Run {
     pub ended: bool,
 }
 
-// Sees to it that a whole form is there, or all that is left of the input.
+// Sees to it that a whole form is there, or all that is left of the input. The bytes that were read and unused are the first of those that are
+// now: none is lost, and none comes twice.
 fn refill(input: &mut impl Read, buf: &mut [u8], run: Run) -> io::Result<Run>
     requires ordered { run.from ≤ run.to }
     requires in_bounds { run.to ≤ length buf.old }
     ensures ordered { IfOk result (λ next. next.from ≤ next.to) }
     ensures in_bounds { IfOk result (λ next. next.to ≤ length buf.new) }
+    ensures none_fewer { IfOk result (λ next. run.to - run.from ≤ next.to - next.from) }
+    ensures kept { IfOk result (λ next. take (run.to - run.from) (drop next.from buf.new) ≡ take (run.to - run.from) (drop run.from buf.old)) }
 {
     let kept = run.to - run.from;
     if run.ended || FORM <= kept {
@@ -61,6 +65,7 @@ fn flush(rt: &impl Print, out: &[u8], text: usize) -> io::Result<usize> {
 
 // Answers the forms one after the other. "A broken form prints its refusal .. and ends the run"; so does one with a length above the limit,
 // since it is refused without reading on. A proved loop has to end, and nothing says that the input does: it ends after 2^64 - 1 forms.
+// The rooms are those that the program has: each list that is read fits into the first three, and each answer into the last.
 fn answer_all(
     rt: &impl Print,
     input: &mut impl Read,
@@ -68,7 +73,12 @@ fn answer_all(
     events: &mut [u64],
     steps: &mut [u32],
     out: &mut [u8],
-) -> io::Result<()> {
+) -> io::Result<()>
+    requires read_room { 65536 ≡ length buf.old }
+    requires events_room { event_limit ≡ length events.old }
+    requires steps_room { event_limit ≡ length steps.old }
+    requires text_room { 2097152 ≡ length out.old }
+{
     let mut run = Run {
         from: 0,
         to: 0,
@@ -93,6 +103,7 @@ fn answer_all(
     rt.write_all(given(out, text))
 }
 
+#[tactic(auto, unfolding(event::specs::Event::event_limit, input::specs::Input::token_limit))]
 fn main(rt: HostRuntime) -> io::Result<()> {
     let mut buf = streams::large_buffer::<READ>();
     let mut events = [0u64; State::LIMIT];

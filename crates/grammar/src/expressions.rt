@@ -302,7 +302,7 @@ fn unary(
     ensures { (result, events.new) ≡ run tokens.now (prefix_expr tokens.now (expr_bp inner.0 tokens.now) kind) state events.old }
 {
     let (state, m) = begin(tokens, events, state, kind)?;
-    let (state, _) = expr_bp(tokens, events, state, OPERAND, inner)?;
+    let (state, _operand) = expr_bp(tokens, events, state, OPERAND, inner)?;
     complete(events, state, m, PREFIX_EXPR)
 }
 

@@ -194,7 +194,7 @@ present_inside ts at kind h =
     let b : 1 ≤ length (parts_of kind) = (width_bounds kind).0 in
     omega (arith, ((present_says ts at kind h).stand (length (parts_of kind) - 1) (omega arith)).inside)
 
--- "the (up to three) tokens from the position on": all that are left where fewer are left
+-- "the (up to three) tokens from the position on": no more than are left
 pub ahead_left : (ts : Tokens) (at : ℕ) → ahead ts at ≤ length ts.kinds - at
 unfolding ahead bound
 ahead_left ts at =

@@ -51,11 +51,11 @@ not_an_op = left_op EOF 0
 unfoldable pub or_op : Tokens → ℕ → Op → (Unit {0} → Op) → Op
 or_op ts at op other = whether (present ts at op.kind) (λ _. op) other
 
--- "The strength and side are decided from the raw token at hand, longest glued form first"
 -- `+ - * / % ^`, each with an assignment; "`->` reads as `-`"
 unfoldable pub arith_op : Tokens → ℕ → ℕ → ℕ → ℕ → Op
 arith_op ts at assigned kind strength = or_op ts at (assign_op assigned) λ _. left_op kind strength
 
+-- "The strength and side are decided from the raw token at hand, longest glued form first"
 -- `|` or `&`: doubled, assigned, or alone
 abbrev pub doubled_op : Tokens → ℕ → ℕ → ℕ → ℕ → ℕ → ℕ → Op
 doubled_op ts at twice twice_strength assigned kind strength =

@@ -2,6 +2,9 @@
 // bytes: `r` for an input of `read`, `b` for the form that stands first in an input of `batch`. All of it fits into 65,536 bytes.
 #![tactic(auto)]
 
+ghost use Rattle.std.specs.Prelude.{◌≡◌, length};
+ghost use Rattle.event.specs.Event.{event_limit};
+
 use answers::{Tokens, given};
 use event::State;
 use input::Position;
@@ -23,14 +26,18 @@ fn case_at(cases: &[u8], at: usize) -> Option<(Span, Result<Form, Unread>)> {
     Some((span, held))
 }
 
-// There are no more cases than bytes.
+// There are no more cases than bytes. The rooms for events and steps are those of `batch`.
 fn show_all(
     rt: &impl Print,
     cases: &[u8],
     events: &mut [u64],
     steps: &mut [u32],
     out: &mut [u8],
-) -> io::Result<()> {
+) -> io::Result<()>
+    requires events_room { event_limit ≡ length events.old }
+    requires steps_room { event_limit ≡ length steps.old }
+    requires text_room { 65536 ≡ length out.old }
+{
     let mut at = 0;
     for _ in 0..cases.len() {
         let Some((span, held)) = case_at(cases, at) else {
@@ -43,6 +50,7 @@ fn show_all(
     Ok(())
 }
 
+#[tactic(auto, unfolding(event::specs::Event::event_limit, input::specs::Input::token_limit))]
 fn main(rt: HostRuntime) -> io::Result<()> {
     let mut buf = streams::large_buffer::<BUFFER>();
     let have = streams::read_full(&mut rt.stdin(), &mut buf)?;

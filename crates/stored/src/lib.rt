@@ -17,6 +17,7 @@ impl Tag {
 }
 
 // The shape of a section: the tag, the low and the high byte of the length, and from `HEAD` on the payload.
+#[derive(Clone, Copy, Debug, PartialEq, Eq)]
 pub struct Section;
 
 impl Section {
@@ -81,13 +82,14 @@ fn length_of(low: u8, high: u8) -> usize
 pub fn head_at(bytes: &[u8], at: usize, tag: Tag) -> Result<usize, Broken>
     ensures { result ≡ head_of bytes.now at tag.0 }
 {
-    let end = Broken(bytes.len());
-    let first = bytes.get(at).copied().ok_or(end)?;
+    let Some(&first) = bytes.get(at) else {
+        return Err(Broken(bytes.len()));
+    };
     if first != tag.0 {
         return Err(Broken(at));
     }
     if bytes.len() - at < Section::HEAD {
-        return Err(end);
+        return Err(Broken(bytes.len()));
     }
     Ok(length_of(bytes[at + Section::LOW], bytes[at + Section::HIGH]))
 }
@@ -165,8 +167,9 @@ pub fn decode_limited(bytes: &[u8], limit: u16) -> Result<Form, Unread>
 pub fn part(bytes: &[u8], span: Span) -> &[u8]
     ensures { result.now ≡ part_of bytes.now span }
 {
-    let rest = bytes.get(span.at..).unwrap_or(&[]);
-    rest.get(..span.len).unwrap_or(&[])
+    let none = &bytes[..0];
+    let rest = bytes.get(span.at..).unwrap_or(none);
+    rest.get(..span.len).unwrap_or(none)
 }
 
 // The kinds of a form, as a part of its bytes.
