@@ -347,10 +347,7 @@ impl<'a> Tokens<'a> {
         if self.len() <= at {
             return Ok(());
         }
-        // Two calls and no smaller of two numbers: where so many are left, how many are looked at is a constant.
-        if self.len() - at < usize::from(Width::LIMIT) {
-            return self.check_bytes(at, self.len());
-        }
-        self.check_bytes(at, at + usize::from(Width::LIMIT))
+        let left = self.len() - at;
+        self.check_bytes(at, at + left.min(usize::from(Width::LIMIT)))
     }
 }
