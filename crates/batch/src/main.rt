@@ -31,8 +31,7 @@ pub struct Run {
     pub ended: bool,
 }
 
-// Sees to it that a whole form is there, or all that is left of the input. The bytes that were read and unused are the first of those that are
-// now: none is lost, and none comes twice.
+// Sees to it that a whole form is there, or all that is left of the input. The bytes that were read and unused stay the first, in their order.
 fn refill(input: &mut impl Read, buf: &mut [u8], run: Run) -> io::Result<Run>
     requires ordered { run.from ≤ run.to }
     requires in_bounds { run.to ≤ length buf.old }
